@@ -9,6 +9,10 @@ Adds-nil old = record { added = sym (append-nil old) }
 pub Adds-join : {old middle new p q : List ℕ} → Adds old middle p → Adds middle new q → Adds old new (p ++ q)
 Adds-join {old} {middle} {new} {p} {q} a b = record { added = b.added ∙ ap (λ l. l ++ q) a.added ∙ append_assoc old p q }
 
+-- what is added to nothing is all there is
+pub Adds-first : {old new p : List ℕ} → old ≡ [] → Adds old new p → new ≡ p
+Adds-first {old} {new} {p} none a = a.added ∙ ap (λ l. l ++ p) none
+
 -- what is added whole is added up to its end
 pub AddsFront-whole : {old new p : List ℕ} → Adds old new p → AddsFront old new p
 AddsFront-whole {old} {new} {p} a = record { front = p; missing = []; whole = sym (append-nil p); added = a.added }

@@ -1,0 +1,8 @@
+use Rattle.text_pieces.proofs.Pieces.{Adds-join}
+use Rattle.corr_run.specs.OneNode.{multipliers}
+use Rattle.corr_run.proofs.one_node.add_multipliers.Goals as goal
+
+pub returns : goal.returns
+unfolding multipliers
+returns c =
+    Adds-join (Adds-join (Adds-join c.in_ok-add_bytes.ensures.ok c.in_ok-add_number.ensures.ok) c.in_ok-add_bytes-2.ensures.ok) c.in_ok-add_bytes-3.ensures.ok

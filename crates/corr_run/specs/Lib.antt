@@ -1,0 +1,3 @@
+pub mod ExitNumber
+pub mod Input
+pub mod OneNode

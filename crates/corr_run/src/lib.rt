@@ -1,0 +1,11 @@
+//! The commands of `corr`: what is read, what is answered, and with which status the program ends.
+//!
+//! It stands on all crates below. `corr_cli` makes a source and a sink of the process' streams and calls `run`, whose
+//! contract says, for every source and every sink, which text is written when.
+#![tactic(auto)]
+
+mod input;
+mod one_node;
+mod status;
+
+pub use status::Status;

@@ -1,0 +1,37 @@
+// How a run ended.
+ghost use Rattle.std.specs.Prelude.{◌≡◌, ℕ};
+
+/// How a run ended.
+#[derive(Clone, Copy, Debug, PartialEq, Eq)]
+pub enum Status {
+    /// A report was written.
+    Solved,
+    /// The input was refused, and the line that says why was written.
+    Refused,
+    /// The words mean no command, and the usage line was written.
+    Usage,
+    /// Memory was wanting.
+    NoMemory,
+    /// The source could not be read.
+    ReadFault,
+    /// The sink could not be written.
+    WriteFault,
+}
+
+impl Status {
+    ghost use Rattle.corr_run.specs.ExitNumber.{exit_number};
+
+    /// The number that the process ends with: below 64 where the command was carried out, else of `sysexits.h`.
+    pub fn code(&self) -> u8
+        ensures { result ≡ exit_number self.now }
+    {
+        match self {
+            Status::Solved => 0,
+            Status::Refused => 2,
+            Status::Usage => 64,
+            Status::NoMemory => 70,
+            Status::ReadFault => 72,
+            Status::WriteFault => 74,
+        }
+    }
+}
