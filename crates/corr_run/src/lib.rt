@@ -4,8 +4,14 @@
 //! contract says, for every source and every sink, which text is written when.
 #![tactic(auto)]
 
+mod answer;
 mod input;
 mod one_node;
 mod status;
+mod top;
 
 pub use status::Status;
+pub use top::run;
+
+#[cfg(test)]
+mod tests;

@@ -1,0 +1,85 @@
+// The top call: words and a source in, a text to the sink and a status out.
+ghost use Rattle.std.specs.Prelude.{◌≡◌, ◌≢◌, ℕ, ◌+◌, ◌^◌, ◌≤◌, ◌↔◌, map, IsTrue, string_bytes};
+ghost use Rattle.corr_port.specs.Count.{Rose};
+ghost use Rattle.corr_run.specs.Answer.{Answer, SolveAnswer};
+ghost use Rattle.corr_run.specs.Ending.{IsWhole, Writes, Ends};
+ghost use Rattle.corr_run.specs.Input.{TakesAtMost};
+ghost use Rattle.corr_run.specs.Words.{IsSolve};
+
+use crate::Status;
+use crate::answer::{SOLVE_LIMIT, solve_answer};
+use crate::input::{InputEnd, read_input};
+use corr_port::{PutEnd, Sink, Source, put_all};
+use std::alloc::Global;
+
+// The line for words that mean no command.
+const USAGE: &[u8] =
+    b"usage: corr solve|check|gen|work [--notion efce|efcce|nfcce] [--kind public|dilemma|chain] [--n N] [--seed N]\n";
+
+fn is_solve(words: &Vec<String>) -> bool
+    ensures { IsTrue result ↔ IsSolve (map string_bytes words.now.items) }
+{
+    words.len() == 1 && words[0].as_str() == "solve"
+}
+
+// Puts the whole text. The status is the one given, unless the sink fails or lacks memory.
+fn write_whole<K: Sink>(out: &mut K, text: &[u8], status: Status) -> Status
+    requires { IsWhole status }
+    ensures writes { Writes (K.held out.old) (K.held out.new) text.now status result }
+    ensures not_unread { result ≢ Status.ReadFault }
+    ensures usage { result ≡ Status.Usage → status ≡ Status.Usage }
+    ensures cause { result ≡ Status.WriteFault → Rose (K.faults out.old) (K.faults out.new) }
+    ensures count { K.faults out.old ≤ K.faults out.new }
+{
+    match put_all(out, text) {
+        Ok(()) => status,
+        Err(PutEnd::Failed) => Status::WriteFault,
+        Err(PutEnd::NoMemory) => Status::NoMemory,
+    }
+}
+
+fn solve<S: Source, K: Sink>(alloc: Global, src: &mut S, out: &mut K) -> Status
+    ensures ends { Ends SolveAnswer (S.left src.old) (K.held out.old) (K.held out.new) result }
+    ensures not_usage { result ≢ Status.Usage }
+    ensures taken { TakesAtMost (2 ^ 22 + 1) (S.left src.old) (S.left src.new) }
+    ensures read_cause { result ≡ Status.ReadFault → Rose (S.faults src.old) (S.faults src.new) }
+    ensures write_cause { result ≡ Status.WriteFault → Rose (K.faults out.old) (K.faults out.new) }
+    ensures source_count { S.faults src.old ≤ S.faults src.new }
+    ensures sink_count { K.faults out.old ≤ K.faults out.new }
+{
+    let input = match read_input(alloc, src, SOLVE_LIMIT) {
+        Ok(input) => input,
+        Err(InputEnd::Unread) => return Status::ReadFault,
+        Err(InputEnd::NoMemory) => return Status::NoMemory,
+    };
+    match solve_answer(alloc, input.as_slice()) {
+        Ok(answer) => write_whole(out, answer.text.as_slice(), answer.status),
+        Err(_) => Status::NoMemory,
+    }
+}
+
+/// Does what the words ask: reads the source, writes the answer to the sink, and says how that ended.
+///
+/// The words are those behind the program's name. The whole text is made before any of it is put, and is then put by
+/// one `put_all`. `Answer` has the texts with their statuses, one constructor a case, and `Ending` has what a fault or
+/// want of memory leaves. Where the source or the sink doesn't tell its bytes, nothing is said of their content, and
+/// the causes and counts hold all the same. `NoMemory` is free: no clause ties it to a refused allocation.
+pub fn run<S: Source, K: Sink>(
+    alloc: Global,
+    words: &Vec<String>,
+    src: &mut S,
+    out: &mut K,
+) -> Status
+    ensures ends { Ends (Answer (map string_bytes words.now.items)) (S.left src.old) (K.held out.old) (K.held out.new) result }
+    ensures unread { result ≡ Status.Usage → src.new ≡ src.old }
+    ensures taken { TakesAtMost (2 ^ 22 + 1) (S.left src.old) (S.left src.new) }
+    ensures read_cause { result ≡ Status.ReadFault → Rose (S.faults src.old) (S.faults src.new) }
+    ensures write_cause { result ≡ Status.WriteFault → Rose (K.faults out.old) (K.faults out.new) }
+    ensures source_count { S.faults src.old ≤ S.faults src.new }
+    ensures sink_count { K.faults out.old ≤ K.faults out.new }
+{
+    if !is_solve(words) {
+        return write_whole(out, USAGE, Status::Usage);
+    }
+    solve(alloc, src, out)
+}
