@@ -1,0 +1,3 @@
+pub mod RingLaws
+pub mod RingTactic
+pub mod Samples
