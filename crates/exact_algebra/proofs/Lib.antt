@@ -1,3 +1,4 @@
+pub mod Families
 pub mod Fractions
 pub mod Identities
 pub mod Order
@@ -5,3 +6,4 @@ pub mod Polynomial
 pub mod RingLaws
 pub mod RingTactic
 pub mod Samples
+pub mod Sums

@@ -1,0 +1,172 @@
+-- Sums over an index: each law by induction on how many terms there are, with one term more at the upper end.
+use Rattle.std.proofs.Common.{◌≡◌, ◌≢◌, ◌⊎◌, ℕ, zero, suc, ◌+◌, ◌*◌, ◌<◌, ◌≤◌, ℤ, pos, ◌+ℤ◌, ◌-ℤ◌, ◌*ℤ◌, neg_ℤ, nat_abs, ◌≤ℤ◌, ◌<ℤ◌, refl, sym, ap, ◌∙◌, ⊎_elim, inl, inr, arith, add-one, add-suc, add-zero}
+use Rattle.std.proofs.lemmas.Int.{ints}
+use Rattle.std.proofs.lemmas.Bool.{cases_lt, cases_eq}
+use Rattle.exact_algebra.proofs.Families.{put, put-same, put-other}
+use Rattle.exact_algebra.proofs.Order.{difference_not_negative, difference_positive}
+use Rattle.exact_algebra.proofs.RingLaws.{*ℤ-+ℤ, +ℤ-*ℤ, *ℤ-zero, zero-*ℤ, +ℤ_idl, +ℤ_idr}
+use Rattle.exact_algebra.proofs.RingTactic.{ring_laws, linear}
+use Rattle.exact_algebra.specs.Sums.{sum_to}
+
+pub sum_to-zero : (f : ℕ → ℤ) → sum_to 0 f ≡ pos 0
+unfolding sum_to
+sum_to-zero f = refl
+
+pub sum_to-suc : (n : ℕ) (f : ℕ → ℤ) → sum_to (suc n) f ≡ sum_to n f +ℤ f n
+unfolding sum_to
+sum_to-suc n f = refl
+
+pub sum_to-add_one : (n : ℕ) (f : ℕ → ℤ) → sum_to (n + 1) f ≡ sum_to n f +ℤ f n
+sum_to-add_one n f = rw add-one (sum_to-suc n f)
+
+-- ---- equal terms, and sums of sums
+pub sum_to-same : (n : ℕ) (f g : ℕ → ℤ) → ((k : ℕ) → k < n → f k ≡ g k) → sum_to n f ≡ sum_to n g
+unfolding sum_to
+sum_to-same zero f g same = refl
+sum_to-same (suc n) f g same =
+    let before = sum_to-same n f g (λ k h. same k (omega arith)) in
+    let last = same n (omega arith) in
+    rw (before, last)
+
+pub sum_to-add : (n : ℕ) (f g : ℕ → ℤ) → sum_to n (λ k. f k +ℤ g k) ≡ sum_to n f +ℤ sum_to n g
+unfolding sum_to
+sum_to-add zero f g = refl
+sum_to-add (suc n) f g = let before = sum_to-add n f g in omega (arith, linear)
+
+pub sum_to-neg : (n : ℕ) (f : ℕ → ℤ) → sum_to n (λ k. neg_ℤ (f k)) ≡ neg_ℤ (sum_to n f)
+unfolding sum_to
+sum_to-neg zero f = refl
+sum_to-neg (suc n) f = let before = sum_to-neg n f in omega (arith, linear)
+
+pub sum_to-difference : (n : ℕ) (f g : ℕ → ℤ) → sum_to n (λ k. f k -ℤ g k) ≡ sum_to n f -ℤ sum_to n g
+sum_to-difference n f g = sum_to-add n f (λ k. neg_ℤ (g k)) ∙ ap (λ x. sum_to n f +ℤ x) (sum_to-neg n g)
+
+pub sum_to-scale : (n : ℕ) (c : ℤ) (f : ℕ → ℤ) → sum_to n (λ k. c *ℤ f k) ≡ c *ℤ sum_to n f
+unfolding sum_to
+sum_to-scale zero c f = sym (*ℤ-zero c)
+sum_to-scale (suc n) c f = ap (λ x. x +ℤ c *ℤ f n) (sum_to-scale n c f) ∙ sym (*ℤ-+ℤ c (sum_to n f) (f n))
+
+pub sum_to-scale_right : (n : ℕ) (c : ℤ) (f : ℕ → ℤ) → sum_to n (λ k. f k *ℤ c) ≡ sum_to n f *ℤ c
+unfolding sum_to
+sum_to-scale_right zero c f = sym (zero-*ℤ c)
+sum_to-scale_right (suc n) c f = ap (λ x. x +ℤ f n *ℤ c) (sum_to-scale_right n c f) ∙ sym (+ℤ-*ℤ (sum_to n f) (f n) c)
+
+pub sum_to-nothing : (n : ℕ) (f : ℕ → ℤ) → ((k : ℕ) → k < n → f k ≡ pos 0) → sum_to n f ≡ pos 0
+unfolding sum_to
+sum_to-nothing zero f none_there = refl
+sum_to-nothing (suc n) f none_there =
+    let before = sum_to-nothing n f (λ k h. none_there k (omega arith)) in
+    let last = none_there n (omega arith) in
+    rw (before, last)
+
+pub sum_to-constant : (n : ℕ) (c : ℤ) → sum_to n (λ k. c) ≡ pos n *ℤ c
+unfolding sum_to
+sum_to-constant zero c = sym (zero-*ℤ c)
+sum_to-constant (suc n) c = let before = sum_to-constant n c in omega (arith, linear)
+
+-- ---- a sum cut in two, its first term, and a double sum taken the other way
+pub sum_to-split : (m n : ℕ) (f : ℕ → ℤ) → sum_to (m + n) f ≡ sum_to m f +ℤ sum_to n (λ k. f (m + k))
+unfolding sum_to
+sum_to-split m zero f = rw add-zero (sym (+ℤ_idr (sum_to m f)))
+sum_to-split m (suc n) f = rw add-suc (let before = sum_to-split m n f in omega (arith, linear))
+
+pub sum_to-first : (n : ℕ) (f : ℕ → ℤ) → sum_to (suc n) f ≡ f 0 +ℤ sum_to n (λ k. f (suc k))
+unfolding sum_to
+sum_to-first zero f = omega (arith, linear)
+sum_to-first (suc n) f = let before = sum_to-first n f in omega (arith, linear)
+
+pub sum_to-exchange : (m n : ℕ) (f : ℕ → ℕ → ℤ) → sum_to m (λ i. sum_to n (λ j. f i j)) ≡ sum_to n (λ j. sum_to m (λ i. f i j))
+unfolding sum_to
+sum_to-exchange zero n f = sym (sum_to-nothing n (λ j. pos 0) (λ k h. refl))
+sum_to-exchange (suc m) n f = ap (λ x. x +ℤ sum_to n (λ j. f m j)) (sum_to-exchange m n f) ∙ sym (sum_to-add n (λ j. sum_to m (λ i. f i j)) (λ j. f m j))
+
+-- ---- few terms that are not 0
+pub sum_to-changed : (n j : ℕ) (f g : ℕ → ℤ) → j < n → ((k : ℕ) → k < n → k ≢ j → f k ≡ g k) → sum_to n f ≡ sum_to n g +ℤ (f j -ℤ g j)
+unfolding sum_to
+sum_to-changed zero j f g within same = absurd (omega arith)
+sum_to-changed (suc n) j f g within same = ⊎_elim (λ h. earlier h (sum_to-changed n j f g h (λ k l d. same k (omega arith) d))) last (cases_lt j n)
+  where
+    earlier : j < n → sum_to n f ≡ sum_to n g +ℤ (f j -ℤ g j) → sum_to (suc n) f ≡ sum_to (suc n) g +ℤ (f j -ℤ g j)
+    earlier h before = let here = same n (omega arith) (omega arith) in omega (arith, linear)
+    last : n ≤ j → sum_to (suc n) f ≡ sum_to (suc n) g +ℤ (f j -ℤ g j)
+    last h =
+        let at : j ≡ n = omega arith in
+        let before = sum_to-same n f g (λ k l. same k (omega arith) (omega arith)) in
+        rw at (omega (arith, linear))
+
+pub sum_to-one : (n j : ℕ) (f : ℕ → ℤ) → j < n → ((k : ℕ) → k < n → k ≢ j → f k ≡ pos 0) → sum_to n f ≡ f j
+sum_to-one n j f within others =
+    let changed = sum_to-changed n j f (λ k. pos 0) within others in
+    let nothing = sum_to-nothing n (λ k. pos 0) (λ k h. refl) in
+    omega (arith, linear)
+
+pub sum_to-two : (n i j : ℕ) (f : ℕ → ℤ) → i < n → j < n → i ≢ j → ((k : ℕ) → k < n → k ≢ i → k ≢ j → f k ≡ pos 0) → sum_to n f ≡ f i +ℤ f j
+sum_to-two n i j f first second apart others =
+    let without = put f j (pos 0) in
+    let changed = sum_to-changed n j f without second (λ k h d. sym (put-other f j (pos 0) k d)) in
+    let one = sum_to-one n i without first (λ k h d. by k h d (cases_eq k j)) in
+    let at_i = put-other f j (pos 0) i apart in
+    let at_j = put-same f j (pos 0) in
+    omega (arith, linear)
+  where
+    by : (k : ℕ) → k < n → k ≢ i → (k ≡ j) ⊎ (k ≢ j) → put f j (pos 0) k ≡ pos 0
+    by k h d (inl e) = rw e (put-same f j (pos 0))
+    by k h d (inr e) = put-other f j (pos 0) k e ∙ others k h d e
+
+-- ---- order
+pub sum_to_not_negative : (n : ℕ) (f : ℕ → ℤ) → ((k : ℕ) → k < n → pos 0 ≤ℤ f k) → pos 0 ≤ℤ sum_to n f
+unfolding sum_to
+sum_to_not_negative zero f each = omega (arith, ints)
+sum_to_not_negative (suc n) f each =
+    let before = sum_to_not_negative n f (λ k h. each k (omega arith)) in
+    let last = each n (omega arith) in
+    omega (arith, linear)
+
+pub sum_to_at_most : (n : ℕ) (f g : ℕ → ℤ) → ((k : ℕ) → k < n → f k ≤ℤ g k) → sum_to n f ≤ℤ sum_to n g
+unfolding sum_to
+sum_to_at_most zero f g each = omega (arith, ints)
+sum_to_at_most (suc n) f g each =
+    let before = sum_to_at_most n f g (λ k h. each k (omega arith)) in
+    let last = each n (omega arith) in
+    omega (arith, linear)
+
+-- A term is at most the sum of terms that are not negative.
+pub term_at_most : (n j : ℕ) (f : ℕ → ℤ) → j < n → ((k : ℕ) → k < n → pos 0 ≤ℤ f k) → f j ≤ℤ sum_to n f
+term_at_most n j f within each =
+    let without = put f j (pos 0) in
+    let changed = sum_to-changed n j f without within (λ k h d. sym (put-other f j (pos 0) k d)) in
+    let at_j = put-same f j (pos 0) in
+    let rest = sum_to_not_negative n without (λ k h. by k h (cases_eq k j)) in
+    omega (arith, linear)
+  where
+    by : (k : ℕ) → k < n → (k ≡ j) ⊎ (k ≢ j) → pos 0 ≤ℤ put f j (pos 0) k
+    by k h (inl e) = rw (e, put-same f j (pos 0)) (omega (arith, ints))
+    by k h (inr d) = rw (put-other f j (pos 0) k d) (each k h)
+
+-- Terms that are not negative and have the sum 0 are 0.
+pub each_nothing : (n j : ℕ) (f : ℕ → ℤ) → j < n → ((k : ℕ) → k < n → pos 0 ≤ℤ f k) → sum_to n f ≡ pos 0 → f j ≡ pos 0
+each_nothing n j f within each none_left =
+    let low = each j within in
+    let high = term_at_most n j f within each in
+    omega (arith, linear)
+
+-- One sum is below another where no term is above the other's and one is below.
+pub sum_to_below : (n j : ℕ) (f g : ℕ → ℤ) → j < n → ((k : ℕ) → k < n → f k ≤ℤ g k) → f j <ℤ g j → sum_to n f <ℤ sum_to n g
+sum_to_below n j f g within each strict =
+    let gap = λ (k : ℕ). g k -ℤ f k in
+    let at_j = term_at_most n j gap within (λ k h. difference_not_negative (each k h)) in
+    let whole = sum_to-difference n g f in
+    let above : pos 0 <ℤ gap j = difference_positive strict in
+    omega (arith, linear)
+
+-- ---- magnitude
+pub magnitude-sum : (a b : ℤ) → nat_abs (a +ℤ b) ≤ nat_abs a + nat_abs b
+magnitude-sum a b = omega (arith, ints)
+
+pub sum_to_bounded : (n m : ℕ) (f : ℕ → ℤ) → ((k : ℕ) → k < n → nat_abs (f k) ≤ m) → nat_abs (sum_to n f) ≤ n * m
+unfolding sum_to
+sum_to_bounded zero m f each = omega arith
+sum_to_bounded (suc n) m f each =
+    let before = sum_to_bounded n m f (λ k h. each k (omega arith)) in
+    let last = each n (omega arith) in
+    omega (arith, magnitude-sum (sum_to n f) (f n))
