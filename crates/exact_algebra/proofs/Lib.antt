@@ -1,3 +1,6 @@
+pub mod DualityOfLists
+pub mod Dot
+pub mod Duality
 pub mod Families
 pub mod Fractions
 pub mod Identities
