@@ -1,3 +1,4 @@
+pub mod FiniteChoice
 pub mod DualityOfLists
 pub mod Dot
 pub mod Duality
