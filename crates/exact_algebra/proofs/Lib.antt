@@ -1,3 +1,5 @@
+pub mod NoReturn
+pub mod RisingKeys
 pub mod FiniteChoice
 pub mod DualityOfLists
 pub mod Dot
