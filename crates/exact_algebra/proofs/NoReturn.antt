@@ -3,11 +3,16 @@
 use Rattle.std.proofs.Common.{◌≡◌, ℕ, zero, suc, ◌+◌, ◌<◌, ◌≤◌, ◌⊎◌, inl, inr, ⊎_elim, Option, Some, None, refl, sym, ap, subst, ◌∙◌, arith}
 use Rattle.std.proofs.lemmas.Bool.{cases_lt, cases_order}
 use Rattle.std_collections.proofs.IndexTableLemmas.Probe.{pigeonhole}
+use Rattle.exact_algebra.specs.Runs.{Leads, one_step, more_steps}
 
--- s leads to t: t comes after one or more steps of the rule `next`.
-pub data Leads {S : Type 0} (next : S → Option S) : S → S → Type 0 where
-  one_step : {s t : S} → next s ≡ Some t → Leads next s t
-  more_steps : {s t u : S} → next s ≡ Some t → Leads next t u → Leads next s u
+-- What each step keeps, and what each step lowers, the states that are led to keep and lower.
+pub leads_kept : {S : Type 0} (next : S → Option S) (Kept : S → Type 0) → ((s t : S) → Kept s → next s ≡ Some t → Kept t) → (s t : S) → Leads next s t → Kept s → Kept t
+leads_kept next Kept kept s t (one_step e) h = kept s t h e
+leads_kept next Kept kept s u (more_steps {t = t} e rest) h = leads_kept next Kept kept t u rest (kept s t h e)
+
+pub leads_lower : {S : Type 0} (next : S → Option S) (size : S → ℕ) → ((s t : S) → next s ≡ Some t → size t < size s) → (s t : S) → Leads next s t → size t < size s
+leads_lower next size lower s t (one_step e) = lower s t e
+leads_lower next size lower s u (more_steps {t = t} e rest) = omega (arith, lower s t e, leads_lower next size lower t u rest)
 
 module _ {S : Type 0} (next : S → Option S) where
   abbrev one_more : Option S → (S → ℕ) → ℕ

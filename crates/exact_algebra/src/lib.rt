@@ -4,3 +4,6 @@
 //! one line. It stands on the pigeonhole principle of `std_collections`. The layers above import its lemmas from `proofs/`,
 //! one idea a file.
 #![tactic(auto)]
+
+#[cfg(test)]
+mod endings;
