@@ -1,3 +1,5 @@
+pub mod Combinations
+pub mod ListSums
 pub mod NoReturn
 pub mod RisingKeys
 pub mod FiniteChoice

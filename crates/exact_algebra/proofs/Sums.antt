@@ -1,5 +1,5 @@
 -- Sums over an index: each law by induction on how many terms there are, with one term more at the upper end.
-use Rattle.std.proofs.Common.{◌≡◌, ◌≢◌, ◌⊎◌, ℕ, zero, suc, ◌+◌, ◌*◌, ◌<◌, ◌≤◌, ℤ, pos, ◌+ℤ◌, ◌-ℤ◌, ◌*ℤ◌, neg_ℤ, nat_abs, ◌≤ℤ◌, ◌<ℤ◌, refl, sym, ap, ◌∙◌, ⊎_elim, inl, inr, arith, add-one, add-suc, add-zero}
+use Rattle.std.proofs.Common.{◌≡◌, ◌≢◌, ◌⊎◌, Bool, true, false, cond, ℕ, zero, suc, ◌+◌, ◌*◌, ◌<◌, ◌≤◌, ℤ, pos, ◌+ℤ◌, ◌-ℤ◌, ◌*ℤ◌, neg_ℤ, unsigned_abs, ◌≤ℤ◌, ◌<ℤ◌, refl, sym, ap, ◌∙◌, ⊎_elim, inl, inr, arith, add-one, add-suc, add-zero}
 use Rattle.std.proofs.lemmas.Int.{ints}
 use Rattle.std.proofs.lemmas.Bool.{cases_lt, cases_eq}
 use Rattle.exact_algebra.proofs.Families.{put, put-same, put-other}
@@ -113,6 +113,18 @@ sum_to-two n i j f first second apart others =
     by k h d (inl e) = rw e (put-same f j (pos 0))
     by k h d (inr e) = put-other f j (pos 0) k e ∙ others k h d e
 
+-- The sum after one member of the family is changed.
+pub sum_to-put : (n j : ℕ) (f : ℕ → ℤ) (v : ℤ) → j < n → sum_to n (put f j v) ≡ sum_to n f +ℤ (v -ℤ f j)
+sum_to-put n j f v within = sum_to-changed n j (put f j v) f within (λ k h d. put-other f j v k d) ∙ ap (λ x. sum_to n f +ℤ (x -ℤ f j)) (put-same f j v)
+
+-- ---- a sum split by a test of the index
+pub sum_to-test : (n : ℕ) (test : ℕ → Bool) (f : ℕ → ℤ) → sum_to n f ≡ sum_to n (λ k. cond (test k) (f k) (pos 0)) +ℤ sum_to n (λ k. cond (test k) (pos 0) (f k))
+sum_to-test n test f = sum_to-same n _ _ (λ k h. parted (test k) (f k)) ∙ sum_to-add n (λ k. cond (test k) (f k) (pos 0)) (λ k. cond (test k) (pos 0) (f k))
+  where
+    parted : (t : Bool) (x : ℤ) → x ≡ cond t x (pos 0) +ℤ cond t (pos 0) x
+    parted true x = sym (+ℤ_idr x)
+    parted false x = sym (+ℤ_idl x)
+
 -- ---- order
 pub sum_to_not_negative : (n : ℕ) (f : ℕ → ℤ) → ((k : ℕ) → k < n → pos 0 ≤ℤ f k) → pos 0 ≤ℤ sum_to n f
 unfolding sum_to
@@ -160,10 +172,10 @@ sum_to_below n j f g within each strict =
     omega (arith, linear)
 
 -- ---- magnitude
-pub magnitude-sum : (a b : ℤ) → nat_abs (a +ℤ b) ≤ nat_abs a + nat_abs b
+pub magnitude-sum : (a b : ℤ) → unsigned_abs (a +ℤ b) ≤ unsigned_abs a + unsigned_abs b
 magnitude-sum a b = omega (arith, ints)
 
-pub sum_to_bounded : (n m : ℕ) (f : ℕ → ℤ) → ((k : ℕ) → k < n → nat_abs (f k) ≤ m) → nat_abs (sum_to n f) ≤ n * m
+pub sum_to_bounded : (n m : ℕ) (f : ℕ → ℤ) → ((k : ℕ) → k < n → unsigned_abs (f k) ≤ m) → unsigned_abs (sum_to n f) ≤ n * m
 unfolding sum_to
 sum_to_bounded zero m f each = omega arith
 sum_to_bounded (suc n) m f each =

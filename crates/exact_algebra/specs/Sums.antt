@@ -11,3 +11,8 @@ unfoldable pub dot : List ℤ → List ℤ → ℤ
 dot [] ys = pos 0
 dot (x ∷ xs) [] = pos 0
 dot (x ∷ xs) (y ∷ ys) = x *ℤ y +ℤ dot xs ys
+
+-- the sum of f over the elements of a list
+unfoldable pub sum_over : {A : Type 0} → (A → ℤ) → List A → ℤ
+sum_over f [] = pos 0
+sum_over f (x ∷ xs) = f x +ℤ sum_over f xs
