@@ -1,17 +1,20 @@
 pub mod Combinations
-pub mod ListSums
-pub mod NoReturn
-pub mod RisingKeys
-pub mod FiniteChoice
-pub mod DualityOfLists
 pub mod Dot
 pub mod Duality
+pub mod DualityOfLists
 pub mod Families
+pub mod FiniteChoice
 pub mod Fractions
 pub mod Identities
+pub mod ListSums
+pub mod NoReturn
 pub mod Order
 pub mod Polynomial
 pub mod RingLaws
 pub mod RingTactic
-pub mod Samples
+pub mod RisingKeys
 pub mod Sums
+mod ChoiceSamples
+mod RingSamples
+mod SolverSamples
+mod SumSamples

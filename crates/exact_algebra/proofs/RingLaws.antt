@@ -2,7 +2,7 @@
 -- integer, its part above 0 and its part below 0, where the product of naturals is multiplied out.
 use Rattle.std.proofs.Common.{◌≡◌, ◌+◌, ◌*◌, ℤ, pos, ◌+ℤ◌, ◌-ℤ◌, ◌*ℤ◌, neg_ℤ, ap, arith}
 use borrow.Author.Differences.{up, down, same_in, sum_is_lem, neg_is, product_is, ints}
-pub use lib.IntN.{*ℤ_comm, neg_ℤ-+ℤ, neg_ℤ-neg_ℤ, zero-*ℤ, *ℤ-zero, *ℤ-one, +ℤ_comm, +ℤ_assoc, +ℤ_idl, +ℤ_idr, +ℤ_invl, +ℤ_invr}
+pub use lib.IntN.{*ℤ_comm, neg_ℤ-+ℤ, neg_ℤ-neg_ℤ, zero-*ℤ, *ℤ-zero, +ℤ_comm, +ℤ_assoc, +ℤ_idl, +ℤ_idr, +ℤ_invl, +ℤ_invr}
 
 up-product : (a b : ℤ) → up (a *ℤ b) ≡ up a * up b + down a * down b
 up-product a b = (product_is a b).0
@@ -52,3 +52,6 @@ difference-*ℤ a b c = simp (+ℤ-*ℤ, neg_ℤ-*ℤ)
 
 pub one-*ℤ : (a : ℤ) → pos 1 *ℤ a ≡ a
 one-*ℤ a = omega (arith, ints)
+
+pub *ℤ-one : (a : ℤ) → a *ℤ pos 1 ≡ a
+*ℤ-one a = omega (arith, ints)
