@@ -1,5 +1,5 @@
 use Rattle.std.proofs.Common.{refl}
-use Rattle.corr_run.specs.Answer.{too_long, not_built}
+use Rattle.corr_run.specs.Answer.{too_long, not_built, solved}
 use Rattle.corr_run.specs.Lines.{too_long_line, not_built_line}
 use Rattle.corr_run.proofs.answer.solve_answer.Goals as goal
 
@@ -10,3 +10,6 @@ returns-then-input-gt-SOLVE_LIMIT c = too_long c.if-input-gt-SOLVE_LIMIT.true c.
 pub returns-in_ok-from_slice-in-None : goal.returns-in_ok-from_slice-in-None
 unfolding not_built_line
 returns-in_ok-from_slice-in-None c = not_built c.if-input-gt-SOLVE_LIMIT.false (λ pay form. cc (c.in-None.ensures.only pay form)) c.in_ok-from_slice-in-None.ensures.items refl
+
+pub returns-in_ok-report_of-in-Some : goal.returns-in_ok-report_of-in-Some
+returns-in_ok-report_of-in-Some c = solved c.if-input-gt-SOLVE_LIMIT.false c.in-Some.pay c.in-Some.ensures.found c.in_ok-report_of-in-Some.ensures refl
