@@ -1,4 +1,5 @@
--- A token as lists of bytes, and its bytes in the file.
+-- A token as lists of bytes, and its bytes in the file. The format is that of Gambit's files for extensive games
+-- (McKelvey, McLennan and Turocy, Gambit), in this project's profile.
 use Rattle.std.specs.Prelude.{ℕ, List, [], ◌∷◌, ◌++◌}
 
 -- a token, apart from where it lies in memory; a text's content is what stands between its quotes
