@@ -1,5 +1,5 @@
 -- Uses of finite choice: a column that may enter, and the rows of least ratio in the simplex method.
-use Rattle.std.proofs.Common.{◌≡◌, ℕ, ◌<◌, Bool, true, false, ℤ, pos, ◌*ℤ◌, ◌≤ℤ◌, ◌<ℤ◌, ◌⊎◌, inl, inr, ⊎_elim, sym, arith}
+use Rattle.std.proofs.Common.{◌≡◌, ℕ, ◌<◌, true, ℤ, pos, ◌*ℤ◌, ◌≤ℤ◌, ◌<ℤ◌, ◌⊎◌, inl, inr, ⊎_elim, arith}
 use Rattle.std.proofs.lemmas.Int.{ints}
 use Rattle.exact_algebra.proofs.FiniteChoice.{FirstBelow, first, no_first, first_below, BestBelow, best_below}
 use Rattle.exact_algebra.proofs.Fractions.{fraction_trans}
@@ -20,5 +20,6 @@ least_ratio m entry side = best_below (λ i. lt_z (pos 0) (entry i)) (λ i k. (s
   where
     total : (i j : ℕ) → lt_z (pos 0) (entry i) ≡ true → lt_z (pos 0) (entry j) ≡ true → ((side j *ℤ entry i) ≤ℤ (side i *ℤ entry j)) ⊎ ((side i *ℤ entry j) ≤ℤ (side j *ℤ entry i))
     total i j p q = ⊎_elim inl (λ l. inr (omega (arith, ints))) (at_most_or_above (side j *ℤ entry i) (side i *ℤ entry j))
+
     trans : (i j k : ℕ) → lt_z (pos 0) (entry i) ≡ true → lt_z (pos 0) (entry j) ≡ true → lt_z (pos 0) (entry k) ≡ true → (side j *ℤ entry i) ≤ℤ (side i *ℤ entry j) → (side k *ℤ entry j) ≤ℤ (side j *ℤ entry k) → (side k *ℤ entry i) ≤ℤ (side i *ℤ entry k)
     trans i j k p q r low high = fraction_trans (side k) (entry k) (side j) (entry j) (side i) (entry i) (omega (arith, ints)) (omega (arith, ints)) (omega (arith, ints)) high low

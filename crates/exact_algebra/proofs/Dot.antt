@@ -1,10 +1,9 @@
 -- The dot product of two lists is a sum over the index of products of elements, 0 past an end. By induction on the first
 -- list, where the sum loses its first term.
-use Rattle.std.proofs.Common.{◌≡◌, ◌≢◌, ℕ, zero, suc, ◌+◌, ◌*◌, ◌<◌, ◌≤◌, List, [], ◌∷◌, ◌++◌, length, get_or, take, map, ℤ, pos, ◌+ℤ◌, ◌-ℤ◌, ◌*ℤ◌, neg_ℤ, refl, sym, ap, ◌∙◌, arith}
-use Rattle.std.proofs.lemmas.Int.{ints}
-use Rattle.exact_algebra.proofs.RingLaws.{*ℤ-+ℤ, +ℤ-*ℤ, *ℤ-zero, zero-*ℤ, *ℤ_comm, *ℤ_assoc, +ℤ_idl, +ℤ_idr}
-use Rattle.exact_algebra.proofs.RingTactic.{ring_laws, linear}
-use Rattle.exact_algebra.proofs.Sums.{sum_to-zero, sum_to-first, sum_to-same, sum_to-nothing}
+use Rattle.std.proofs.Common.{◌≡◌, ℕ, zero, suc, ◌≤◌, List, [], ◌∷◌, ◌++◌, length, get_or, take, map, ℤ, pos, ◌+ℤ◌, ◌*ℤ◌, refl, sym, ap, ◌∙◌, arith}
+use Rattle.exact_algebra.proofs.RingLaws.{*ℤ-+ℤ, *ℤ-zero, zero-*ℤ, *ℤ_comm, *ℤ_assoc, +ℤ_idl}
+use Rattle.exact_algebra.proofs.RingTactic.{linear}
+use Rattle.exact_algebra.proofs.Sums.{sum_to-first, sum_to-same, sum_to-nothing}
 use Rattle.exact_algebra.specs.Sums.{sum_to, dot}
 
 -- The element k of a list of numbers, 0 past its end.

@@ -1,30 +1,19 @@
 -- Weak duality of linear programs in whole numbers, as a sample of sums: the sum of x j times the reduced column j is not
 -- negative, and a double sum taken the other way turns it into the difference of the two values.
-use Rattle.std.proofs.Common.{◌≡◌, ℕ, ◌<◌, ◌≤◌, List, [], ◌∷◌, length, get_or, map, ℤ, pos, ◌+ℤ◌, ◌-ℤ◌, ◌*ℤ◌, ◌≤ℤ◌, refl, sym, ap, ◌∙◌, ap₂, arith}
-use Rattle.std.proofs.lemmas.Int.{ints}
-use Rattle.exact_algebra.proofs.Dot.{entry, dot-sum, dot-sum_right}
+use Rattle.std.proofs.Common.{◌≡◌, ℕ, ◌<◌, ℤ, pos, ◌-ℤ◌, ◌*ℤ◌, ◌≤ℤ◌, ap, ◌∙◌, ap₂, arith}
+use Rattle.exact_algebra.proofs.Matrices.{row_matrix_column}
 use Rattle.exact_algebra.proofs.Order.{product_not_negative}
-use Rattle.exact_algebra.proofs.RingLaws.{*ℤ_comm, *ℤ_assoc, *ℤ_left_comm, *ℤ-difference}
+use Rattle.exact_algebra.proofs.RingLaws.{*ℤ_comm, *ℤ_left_comm}
 use Rattle.exact_algebra.proofs.RingTactic.{ring_laws, linear}
-use Rattle.exact_algebra.proofs.Sums.{sum_to-same, sum_to-difference, sum_to-exchange, sum_to-scale, sum_to_not_negative}
-use Rattle.exact_algebra.specs.Sums.{sum_to, dot}
+use Rattle.exact_algebra.proofs.Sums.{sum_to-same, sum_to-difference, sum_to-scale, sum_to_not_negative}
+use Rattle.exact_algebra.specs.Sums.{sum_to}
 
 module _ (m n : ℕ) (rows : ℕ → ℕ → ℤ) (b c x y : ℕ → ℤ) (d den : ℤ) where
-  -- Σ_j x j · Σ_i y i · rows i j is Σ_i y i · Σ_j rows i j · x j.
-  both_ways : sum_to n (λ j. x j *ℤ sum_to m (λ i. y i *ℤ rows i j)) ≡ sum_to m (λ i. y i *ℤ sum_to n (λ j. rows i j *ℤ x j))
-  both_ways =
-      sum_to-same n _ _ (λ j h. sym (sum_to-scale m (x j) (λ i. y i *ℤ rows i j)))
-      ∙ (sum_to-exchange n m (λ j i. x j *ℤ (y i *ℤ rows i j))
-      ∙ sum_to-same m _ _ (λ i h. sum_to-same n _ _ (λ j l. turned (x j) (y i) (rows i j)) ∙ sum_to-scale n (y i) (λ j. rows i j *ℤ x j)))
-    where
-      turned : (u v w : ℤ) → u *ℤ (v *ℤ w) ≡ v *ℤ (w *ℤ u)
-      turned u v w = simp ring_laws
-
   slack_sum : sum_to n (λ j. x j *ℤ (sum_to m (λ i. y i *ℤ rows i j) -ℤ den *ℤ c j)) ≡ sum_to m (λ i. y i *ℤ sum_to n (λ j. rows i j *ℤ x j)) -ℤ den *ℤ sum_to n (λ j. c j *ℤ x j)
   slack_sum =
       sum_to-same n _ _ (λ j h. reduced (x j) (sum_to m (λ i. y i *ℤ rows i j)) (c j))
       ∙ (sum_to-difference n (λ j. x j *ℤ sum_to m (λ i. y i *ℤ rows i j)) (λ j. den *ℤ (c j *ℤ x j))
-      ∙ ap₂ (λ u v. u -ℤ v) both_ways (sum_to-scale n den (λ j. c j *ℤ x j)))
+      ∙ ap₂ (λ u v. u -ℤ v) (sum_to-same n _ _ (λ j h. *ℤ_comm (x j) (sum_to m (λ i. y i *ℤ rows i j))) ∙ row_matrix_column m n y rows x) (sum_to-scale n den (λ j. c j *ℤ x j)))
     where
       reduced : (u v w : ℤ) → u *ℤ (v -ℤ den *ℤ w) ≡ u *ℤ v -ℤ den *ℤ (w *ℤ u)
       reduced u v w = simp ring_laws (omega (arith, linear))

@@ -1,9 +1,9 @@
 -- Weak duality stated for lists: a matrix as its rows, each dot product a sum over the index.
-use Rattle.std.proofs.Common.{◌≡◌, ℕ, suc, zero, ◌<◌, ◌≤◌, List, [], ◌∷◌, length, get_or, map, ℤ, pos, ◌+ℤ◌, ◌-ℤ◌, ◌*ℤ◌, ◌≤ℤ◌, refl, sym, ap, subst, ◌∙◌, le_refl, arith}
+use Rattle.std.proofs.Common.{◌≡◌, ℕ, suc, zero, ◌<◌, ◌≤◌, List, [], ◌∷◌, length, get_or, map, ℤ, pos, ◌-ℤ◌, ◌*ℤ◌, ◌≤ℤ◌, refl, sym, ap, subst, ◌∙◌, le_refl}
 use Rattle.exact_algebra.proofs.Dot.{entry, dot-sum, dot-sum_right}
 use Rattle.exact_algebra.proofs.Duality.{weak_duality}
 use Rattle.exact_algebra.proofs.Sums.{sum_to-same}
-use Rattle.exact_algebra.specs.Sums.{sum_to, dot}
+use Rattle.exact_algebra.specs.Sums.{dot}
 
 -- The column j of a matrix that is given by its rows.
 abbrev pub column : List (List ℤ) → ℕ → List ℤ

@@ -1,7 +1,7 @@
 -- Choice among the numbers below n: a first and a last one with a property that a test decides, and a best one in an order.
 -- By induction on n, where the new number is tested or compared with the choice so far.
-use Rattle.std.proofs.Common.{◌≡◌, ℕ, zero, suc, ◌+◌, ◌<◌, ◌≤◌, Bool, true, false, ℤ, neg_ℤ, ◌≤ℤ◌, ◌<ℤ◌, ◌⊎◌, inl, inr, ⊎_elim, refl, sym, ◌∙◌, arith}
-use Rattle.std.proofs.lemmas.Bool.{cases_lt, cases_order}
+use Rattle.std.proofs.Common.{◌≡◌, ℕ, zero, suc, ◌<◌, ◌≤◌, Bool, true, false, ℤ, neg_ℤ, ◌≤ℤ◌, ◌<ℤ◌, ◌⊎◌, inl, inr, ⊎_elim, refl, arith}
+use Rattle.std.proofs.lemmas.Bool.{cases_lt}
 use Rattle.std.proofs.lemmas.Int.{ints}
 use lib.Signed.{≤ℤ_refl}
 use Rattle.exact_algebra.proofs.Order.{at_most_or_above}
@@ -31,6 +31,7 @@ first_below test (suc n) = by (first_below test n)
     at : (t : Bool) → test n ≡ t → ((j : ℕ) → j < n → test j ≡ false) → FirstBelow test (suc n)
     at true e none = first n (omega arith) e none
     at false e none = no_first (each_more (λ j. test j ≡ false) n none e)
+
     by : FirstBelow test n → FirstBelow test (suc n)
     by (first k h passes before) = first k (omega arith) passes before
     by (no_first none) = at (test n) refl none
@@ -51,17 +52,19 @@ pub data BestBelow (test : ℕ → Bool) (AtMost : ℕ → ℕ → Type 0) (n : 
 
 -- The order is to be total and transitive among the numbers that pass.
 module _ (test : ℕ → Bool) (AtMost : ℕ → ℕ → Type 0)
-  (total : (i j : ℕ) → test i ≡ true → test j ≡ true → AtMost i j ⊎ AtMost j i)
-  (trans : (i j k : ℕ) → test i ≡ true → test j ≡ true → test k ≡ true → AtMost i j → AtMost j k → AtMost i k) where
+    (total : (i j : ℕ) → test i ≡ true → test j ≡ true → AtMost i j ⊎ AtMost j i)
+    (trans : (i j k : ℕ) → test i ≡ true → test j ≡ true → test k ≡ true → AtMost i j → AtMost j k → AtMost i k) where
   pub best_below : (n : ℕ) → BestBelow test AtMost n
   best_below zero = no_best (λ j h. absurd (omega arith))
   best_below (suc n) = by (test n) refl (best_below n)
     where
       itself : test n ≡ true → AtMost n n
       itself e = ⊎_elim (λ r. r) (λ r. r) (total n n e e)
+
       compared : (k : ℕ) → k < n → test k ≡ true → ((j : ℕ) → j < n → test j ≡ true → AtMost j k) → test n ≡ true → AtMost k n ⊎ AtMost n k → BestBelow test AtMost (suc n)
       compared k h passes over e (inl r) = best n (omega arith) e (each_more (λ j. test j ≡ true → AtMost j n) n (λ j l p. trans j k n p passes e (over j l p) r) itself)
       compared k h passes over e (inr r) = best k (omega arith) passes (each_more (λ j. test j ≡ true → AtMost j k) n over (λ p. r))
+
       by : (t : Bool) → test n ≡ t → BestBelow test AtMost n → BestBelow test AtMost (suc n)
       by true e (best k h passes over) = compared k h passes over e (total k n passes e)
       by true e (no_best none) = best n (omega arith) e (each_more (λ j. test j ≡ true → AtMost j n) n (λ j l p. absurd (cc (none j l))) itself)
@@ -90,8 +93,9 @@ greatest_of (suc n) f = by (greatest_of n f)
           at = g.at;
           within = omega (arith, g.within);
           over = λ k l. each_more (λ j. f j ≤ℤ f g.at) (suc n) (λ j m. g.over j (omega arith)) h k (omega arith);
-          over_earlier = g.over_earlier
+          over_earlier = g.over_earlier;
         }
+
         replaced : f g.at <ℤ f (suc n) → Greatest f (suc n)
         replaced h =
             let under : (j : ℕ) → j < suc n → f j <ℤ f (suc n) = λ j m. let o = g.over j (omega arith) in omega (arith, ints) in
@@ -99,7 +103,7 @@ greatest_of (suc n) f = by (greatest_of n f)
               at = suc n;
               within = omega arith;
               over = λ k l. each_more (λ j. f j ≤ℤ f (suc n)) (suc n) (λ j m. let u = under j m in omega (arith, ints)) (≤ℤ_refl (f (suc n))) k (omega arith);
-              over_earlier = under
+              over_earlier = under;
             }
 
 -- A least of f 0 .. f n, the first of them where there are several.
@@ -117,5 +121,5 @@ least_of n f = by (greatest_of n (λ k. neg_ℤ (f k)))
       at = g.at;
       within = g.within;
       under = λ k h. let o = g.over k h in omega (arith, ints);
-      under_earlier = λ k h. let o = g.over_earlier k h in omega (arith, ints)
+      under_earlier = λ k h. let o = g.over_earlier k h in omega (arith, ints);
     }

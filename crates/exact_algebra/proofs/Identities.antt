@@ -1,12 +1,11 @@
 -- Identities of polynomials over ℤ by computation: two expressions with one Horner form have one value at all numbers.
 -- For two unknowns write `identity_two (λ x y. (x ⊕ y) ⊗ (x ⊖ y)) (λ x y. x ⊗ x ⊖ y ⊗ y) a b refl`.
-use Rattle.std.proofs.Common.{◌≡◌, ℕ, zero, suc, List, [], ◌∷◌, ℤ, pos, negsuc, ◌+ℤ◌, ◌-ℤ◌, ◌*ℤ◌, neg_ℤ, refl, sym, ap, ◌∙◌, get_or, arith}
-use Rattle.exact_algebra.proofs.Polynomial.{Horner, num, step, value, raise, plus, scale, times, value-plus, value-scale, value-times, value-raise}
-use Rattle.exact_algebra.proofs.RingTactic.{ring_laws, linear}
+use Rattle.std.proofs.Common.{◌≡◌, ℕ, List, [], ◌∷◌, ℤ, pos, negsuc, ◌+ℤ◌, ◌-ℤ◌, ◌*ℤ◌, refl, sym, ap, ◌∙◌, get_or, arith}
+use Rattle.exact_algebra.proofs.Polynomial.{Horner, num, step, value, plus, scale, times, value-plus, value-scale, value-times}
+use Rattle.exact_algebra.proofs.RingTactic.{linear}
 
 infixl 6 ◌⊕◌ ◌⊖◌
 infixl 7 ◌⊗◌
-
 -- An expression over unknowns that go by number.
 pub data Expression : Type 0 where
   unknown : ℕ → Expression

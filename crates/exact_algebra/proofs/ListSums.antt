@@ -1,8 +1,8 @@
 -- Sums over the elements of a list: each law by induction on the list, and the sum as one over the index.
-use Rattle.std.proofs.Common.{◌≡◌, ℕ, zero, suc, ◌+◌, ◌*◌, ◌<◌, ◌≤◌, Bool, true, false, cond, List, [], ◌∷◌, ◌++◌, length, get_or, map, filter, All, unsigned_abs, ℤ, pos, ◌+ℤ◌, ◌-ℤ◌, ◌*ℤ◌, neg_ℤ, ◌≤ℤ◌, refl, sym, ap, ap₂, ◌∙◌, arith}
+use Rattle.std.proofs.Common.{◌≡◌, ℕ, ◌*◌, ◌≤◌, Bool, true, false, cond, List, [], ◌∷◌, ◌++◌, length, get_or, map, filter, All, unsigned_abs, ℤ, pos, ◌+ℤ◌, ◌-ℤ◌, ◌*ℤ◌, neg_ℤ, ◌≤ℤ◌, refl, sym, ap, ap₂, ◌∙◌, arith}
 use Rattle.std.proofs.lemmas.Int.{ints}
 use Rattle.std.proofs.lemmas.List.Elements.{All-head, All-tail}
-use Rattle.exact_algebra.proofs.RingLaws.{*ℤ-+ℤ, *ℤ-zero, +ℤ_idl, +ℤ_idr}
+use Rattle.exact_algebra.proofs.RingLaws.{*ℤ-+ℤ, *ℤ-zero, +ℤ_idl}
 use Rattle.exact_algebra.proofs.RingTactic.{linear}
 use Rattle.exact_algebra.proofs.Sums.{sum_to-zero, sum_to-first, magnitude-sum}
 use Rattle.exact_algebra.specs.Sums.{sum_to, sum_over}

@@ -1,6 +1,6 @@
 -- The end of a loop by a rule that never comes back to a code: states that follow one another have codes that differ, so
 -- by the pigeonhole principle fewer than `bound` steps can be taken, and the number of steps left is a measure.
-use Rattle.std.proofs.Common.{◌≡◌, ℕ, zero, suc, ◌+◌, ◌<◌, ◌≤◌, ◌⊎◌, inl, inr, ⊎_elim, Option, Some, None, refl, sym, ap, subst, ◌∙◌, arith}
+use Rattle.std.proofs.Common.{◌≡◌, ℕ, zero, suc, ◌<◌, ◌≤◌, ◌⊎◌, inl, inr, ⊎_elim, Option, Some, None, refl, sym, ap, subst, ◌∙◌, arith}
 use Rattle.std.proofs.lemmas.Bool.{cases_lt, cases_order}
 use Rattle.std_collections.proofs.IndexTableLemmas.Probe.{pigeonhole}
 use Rattle.exact_algebra.specs.Runs.{Leads, one_step, more_steps}
@@ -94,6 +94,7 @@ module _ {S : Type 0} (next : S → Option S) where
       from t e rest zero (suc zero) l h = rw (none_after s, moved 0 s t e, none_after t) (one_step e)
       from t e rest zero (suc (suc v)) l h = rw (none_after s, moved (suc v) s t e) (more_steps e (subst (λ x. Leads next x (state_after (suc v) t)) (none_after t) (rest 0 (suc v) (omega arith) (omega arith))))
       from t e rest (suc u) (suc v) l h = rw (moved u s t e, moved v s t e) (rest u v (omega arith) (omega arith))
+
       by : (o : Option S) → next s ≡ o → ((t : S) → steps_left n t ≡ n → (u v : ℕ) → u < v → v ≤ n → Leads next (state_after u t) (state_after v t)) → Leads next (state_after i s) (state_after j s)
       by None e rest = absurd (omega (arith, stopped n s e))
       by (Some t) e rest = from t e (rest t (omega (arith, stepped n s t e))) i j low high
@@ -121,9 +122,9 @@ module _ {S : Type 0} (next : S → Option S) where
 
 -- The rule keeps what is `Kept`; a kept state has a code below `bound`, and leads to no state of its own code.
 module _ {S : Type 0} (next : S → Option S) (Kept : S → Type 0) (code : S → ℕ) (bound : ℕ)
-  (kept : (s t : S) → Kept s → next s ≡ Some t → Kept t)
-  (coded : (s : S) → Kept s → code s < bound)
-  (no_return : (s t : S) → Kept s → Leads next s t → code s ≡ code t → ⊥) where
+    (kept : (s t : S) → Kept s → next s ≡ Some t → Kept t)
+    (coded : (s : S) → Kept s → code s < bound)
+    (no_return : (s t : S) → Kept s → Leads next s t → code s ≡ code t → ⊥) where
   kept_after : (k : ℕ) (s : S) → Kept s → Kept (state_after next k s)
   kept_after zero s h = rw (none_after next s) h
   kept_after (suc k) s h = by (next s) refl (kept_after k)
@@ -140,15 +141,16 @@ module _ {S : Type 0} (next : S → Option S) (Kept : S → Type 0) (code : S �
       coming_back i j low high same l =
           let whole : steps_left next bound s ≡ bound = omega (arith, steps_left-le next bound s) in
           no_return (state_after next i s) (state_after next j s) (kept_after i s h) (run_leads next bound s whole i j low high) same
+
       all_taken : bound ≤ steps_left next bound s → ⊥
       all_taken l =
           let codes = λ (k : ℕ). code (state_after next k s) in
           let apart : (i j : ℕ) → i < suc bound → j < suc bound → codes i ≡ codes j → i ≡ j = λ i j p q e.
-            elim (cases_order i j) [
-              | inl same ↦ same
-              | inr (inl low) ↦ absurd (coming_back i j low (omega arith) e l)
-              | inr (inr low) ↦ absurd (coming_back j i low (omega arith) (sym e) l)
-            ] in
+          elim (cases_order i j) [
+            | inl same ↦ same
+            | inr (inl low) ↦ absurd (coming_back i j low (omega arith) e l)
+            | inr (inr low) ↦ absurd (coming_back j i low (omega arith) (sym e) l)
+          ] in
           omega (arith, pigeonhole (suc bound) bound codes (λ k p. coded (state_after next k s) (kept_after k s h)) apart)
 
   -- The measure of a loop that takes the rule's step from s to t.
@@ -167,5 +169,5 @@ module _ {S : Type 0} (next : S → Option S) (Kept : S → Type 0) (code : S �
     at = state_after next bound s;
     held = kept_after bound s h;
     stops = settled next bound s (steps_left_bounded s h);
-    reached = reaches next bound s
+    reached = reaches next bound s;
   }

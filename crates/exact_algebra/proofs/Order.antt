@@ -1,6 +1,6 @@
 -- Order of products in ℤ. A product of two numbers that are not negative is a natural number; the rest follows from it at
 -- differences, where the products are multiplied out.
-use Rattle.std.proofs.Common.{◌≡◌, ◌≢◌, ℕ, zero, suc, ◌+◌, ◌*◌, ◌<◌, ◌≤◌, ℤ, pos, negsuc, ◌+ℤ◌, ◌-ℤ◌, ◌*ℤ◌, neg_ℤ, ◌≤ℤ◌, ◌<ℤ◌, ◌⊎◌, inl, inr, ⊎_elim, refl, sym, ap, ◌∙◌, subst, arith}
+use Rattle.std.proofs.Common.{◌≡◌, ◌≢◌, zero, suc, ℤ, pos, negsuc, ◌-ℤ◌, ◌*ℤ◌, neg_ℤ, ◌≤ℤ◌, ◌<ℤ◌, ◌⊎◌, inl, inr, ⊎_elim, refl, sym, ap, ◌∙◌, arith}
 use Rattle.std.proofs.lemmas.Int.{ints, by_lt_z}
 use Rattle.exact_algebra.proofs.RingLaws.{*ℤ-zero, neg_ℤ-*ℤ}
 use Rattle.exact_algebra.proofs.RingTactic.{ring_laws, linear}
@@ -122,6 +122,7 @@ no_zero_divisors a b e = by (sign a)
   where
     other : a ≢ pos 0 → b ≡ pos 0
     other h = cancel a h (e ∙ sym (*ℤ-zero a))
+
     by : Sign a → (a ≡ pos 0) ⊎ (b ≡ pos 0)
     by (negative l) = inr (other (λ z. omega (arith, ints)))
     by (nothing z) = inl z

@@ -1,8 +1,8 @@
 -- Polynomials with whole coefficients as data, in nested Horner form, and their sum, multiple and product by computation.
 -- A form is a number, or p times the unknown i plus q, where p speaks of unknowns from i on and q of later ones. So equal
 -- polynomials have one form. That each operation has the value that it should is shown by induction on the form.
-use Rattle.std.proofs.Common.{◌≡◌, ◌≢◌, ℕ, zero, suc, ◌+◌, ◌<◌, ◌≤◌, Bool, true, false, ltb, ltb-true, ltb-false, ℤ, pos, negsuc, ◌+ℤ◌, ◌*ℤ◌, neg_ℤ, refl, sym, ap, ◌∙◌, arith}
-use Rattle.exact_algebra.proofs.RingLaws.{zero-*ℤ, *ℤ-zero, one-*ℤ, +ℤ_idl, +ℤ_idr}
+use Rattle.std.proofs.Common.{◌≡◌, ℕ, zero, suc, Bool, true, false, ltb, ltb-false, ℤ, pos, negsuc, ◌+ℤ◌, ◌*ℤ◌, refl, ◌∙◌, arith}
+use Rattle.exact_algebra.proofs.RingLaws.{zero-*ℤ, +ℤ_idl, +ℤ_idr}
 use Rattle.exact_algebra.proofs.RingTactic.{ring_laws, linear}
 
 pub data Horner : Type 0 where
@@ -40,8 +40,8 @@ abbrev pub plus_step : Horner → ℕ → Horner → (Horner → Horner) → (Ho
 plus_step p i q plus_p plus_q (num b) = step p i (plus_q (num b))
 plus_step p i q plus_p plus_q (step r j s) =
     elim (ltb i j) [
-      true ↦ step p i (plus_q (step r j s))
-    | false ↦ elim (ltb j i) [ true ↦ step r j (plus_step p i q plus_p plus_q s) | false ↦ join (plus_p r) i (plus_q s) ]
+      | true ↦ step p i (plus_q (step r j s))
+      | false ↦ elim (ltb j i) [ true ↦ step r j (plus_step p i q plus_p plus_q s) | false ↦ join (plus_p r) i (plus_q s) ]
     ]
 
 abbrev pub plus : Horner → Horner → Horner
@@ -67,7 +67,7 @@ value-plus_step at p i q plus_p plus_q for_p for_q (step r j s) =
     let before : value at p *ℤ at i +ℤ value at (plus_q (step r j s)) ≡ value at (step p i q) +ℤ value at (step r j s) = omega (arith, linear) in
     let after : value at r *ℤ at j +ℤ value at (plus_step p i q plus_p plus_q s) ≡ value at (step p i q) +ℤ value at (step r j s) = omega (arith, linear) in
     let here : i ≡ j → value at (join (plus_p r) i (plus_q s)) ≡ value at (step p i q) +ℤ value at (step r j s) =
-        λ e. value-join at (plus_p r) i (plus_q s) ∙ (rw (heads, tails, ← e) (simp ring_laws (omega (arith, linear)))) in
+    λ e. value-join at (plus_p r) i (plus_q s) ∙ (rw (heads, tails, ← e) (simp ring_laws (omega (arith, linear)))) in
     value-choice at i j (step p i (plus_q (step r j s))) (step r j (plus_step p i q plus_p plus_q s)) (join (plus_p r) i (plus_q s)) (value at (step p i q) +ℤ value at (step r j s)) before after here (ltb i j) (ltb j i) refl refl
 
 pub value-plus : (at : ℕ → ℤ) (h k : Horner) → value at (plus h k) ≡ value at h +ℤ value at k

@@ -1,5 +1,5 @@
 -- Uses of the ring tactic: identities of low degree, and inequalities from a hypothesis in the same form.
-use Rattle.std.proofs.Common.{◌≡◌, ℕ, ℤ, pos, negsuc, ◌+ℤ◌, ◌-ℤ◌, ◌*ℤ◌, ◌≤ℤ◌, arith}
+use Rattle.std.proofs.Common.{◌≡◌, ℕ, ◌^◌, ℤ, pos, negsuc, ◌+ℤ◌, ◌-ℤ◌, ◌*ℤ◌, ◌≤ℤ◌, arith}
 use Rattle.exact_algebra.proofs.Order.{square_not_negative}
 use Rattle.exact_algebra.proofs.RingTactic.{ring_laws, linear}
 
@@ -30,3 +30,7 @@ sides_exchanged a b c d h = let given = simp ring_laws at h in simp ring_laws (o
 -- The inequality of Cauchy and Schwarz in the plane, from one square.
 cauchy : (a b x y : ℤ) → ((a *ℤ x +ℤ b *ℤ y) *ℤ (a *ℤ x +ℤ b *ℤ y)) ≤ℤ ((a *ℤ a +ℤ b *ℤ b) *ℤ (x *ℤ x +ℤ y *ℤ y))
 cauchy a b x y = let square = simp ring_laws at (square_not_negative (a *ℤ y -ℤ b *ℤ x)) in simp ring_laws (omega (arith, linear))
+
+-- Two objectives in one: a great weight, added on both sides.
+weighted : (u v x y : ℤ) → (pos (2 ^ 126) *ℤ u +ℤ v) *ℤ x -ℤ (pos (2 ^ 126) *ℤ u -ℤ v) *ℤ x ≡ pos 2 *ℤ (v *ℤ x)
+weighted u v x y = simp ring_laws (omega (arith, linear))

@@ -1,7 +1,6 @@
 -- The end of a loop whose key rises and always stands in one finite list: how many keys of the list stand above it falls.
 -- Each key above the new one stood above the old one, and the new one itself no longer counts.
-use Rattle.std.proofs.Common.{◌≡◌, ℕ, zero, suc, ◌+◌, ◌<◌, ◌≤◌, Bool, true, false, cond, ltb, ltb-true, lt-ltb, le-ltb, List, [], ◌∷◌, length, get_or, Contains, ℤ, ◌<ℤ◌, refl, sym, ◌∙◌, arith}
-use Rattle.std.proofs.lemmas.Bool.{true_from_ne_false, false_from_ne_true}
+use Rattle.std.proofs.Common.{◌≡◌, ℕ, zero, suc, ◌+◌, ◌<◌, ◌≤◌, Bool, true, false, cond, ltb, ltb-true, lt-ltb, le-ltb, List, [], ◌∷◌, length, get_or, Contains, ℤ, ◌<ℤ◌, refl, sym, arith}
 use Rattle.std.proofs.lemmas.Int.{ints}
 use lib.Signed.{lt_z}
 

@@ -1,6 +1,6 @@
 -- Uses of the solver by computation: two, four and nine unknowns by name or number, Cramer's rule in the plane with twelve
 -- unknowns, the determinant of a product with eighteen, and an equation from two given ones.
-use Rattle.std.proofs.Common.{◌≡◌, [], ◌∷◌, ℤ, pos, negsuc, ◌+ℤ◌, ◌-ℤ◌, ◌*ℤ◌, refl}
+use Rattle.std.proofs.Common.{◌≡◌, [], ◌∷◌, ℤ, pos, ◌+ℤ◌, ◌-ℤ◌, ◌*ℤ◌, refl}
 use Rattle.exact_algebra.proofs.Combinations.{same_by_two}
 use Rattle.exact_algebra.proofs.Identities.{Expression, unknown, lit, ◌⊕◌, ◌⊖◌, ◌⊗◌, identity, identity_two, identity_four, identity_six}
 

@@ -1,10 +1,10 @@
 -- Uses of sums and of order with products.
-use Rattle.std.proofs.Common.{◌≡◌, ◌≢◌, ℕ, zero, suc, ◌+◌, ◌<◌, ◌≤◌, ℤ, pos, ◌+ℤ◌, ◌-ℤ◌, ◌*ℤ◌, ◌≤ℤ◌, ap, ap₂, sym, ◌∙◌, arith}
+use Rattle.std.proofs.Common.{◌≡◌, ℕ, zero, suc, ◌<◌, ℤ, pos, ◌-ℤ◌, ◌*ℤ◌, ◌≤ℤ◌, ap, ap₂, ◌∙◌, arith}
 use Rattle.exact_algebra.proofs.Families.{put, put-same, put-other}
 use Rattle.exact_algebra.proofs.Order.{square_not_negative, square_nothing, products_at_most}
-use Rattle.exact_algebra.proofs.RingLaws.{*ℤ-zero, *ℤ-one, zero-*ℤ}
+use Rattle.exact_algebra.proofs.RingLaws.{*ℤ-zero, *ℤ-one}
 use Rattle.exact_algebra.proofs.RingTactic.{ring_laws, linear}
-use Rattle.exact_algebra.proofs.Sums.{sum_to-zero, sum_to-suc, sum_to-one, sum_to-difference, sum_to-scale, sum_to-same, sum_to-exchange, each_nothing}
+use Rattle.exact_algebra.proofs.Sums.{sum_to-zero, sum_to-suc, sum_to-one, sum_to-difference, sum_to-scale, each_nothing}
 use Rattle.exact_algebra.specs.Sums.{sum_to}
 
 linear_combination : (n : ℕ) (f g : ℕ → ℤ) → sum_to n (λ k. pos 2 *ℤ f k -ℤ pos 3 *ℤ g k) ≡ pos 2 *ℤ sum_to n f -ℤ pos 3 *ℤ sum_to n g

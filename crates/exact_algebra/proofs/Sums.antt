@@ -5,7 +5,7 @@ use Rattle.std.proofs.lemmas.Bool.{cases_lt, cases_eq}
 use Rattle.exact_algebra.proofs.Families.{put, put-same, put-other}
 use Rattle.exact_algebra.proofs.Order.{difference_not_negative, difference_positive}
 use Rattle.exact_algebra.proofs.RingLaws.{*ℤ-+ℤ, +ℤ-*ℤ, *ℤ-zero, zero-*ℤ, +ℤ_idl, +ℤ_idr}
-use Rattle.exact_algebra.proofs.RingTactic.{ring_laws, linear}
+use Rattle.exact_algebra.proofs.RingTactic.{linear}
 use Rattle.exact_algebra.specs.Sums.{sum_to}
 
 pub sum_to-zero : (f : ℕ → ℤ) → sum_to 0 f ≡ pos 0
@@ -88,6 +88,7 @@ sum_to-changed (suc n) j f g within same = ⊎_elim (λ h. earlier h (sum_to-cha
   where
     earlier : j < n → sum_to n f ≡ sum_to n g +ℤ (f j -ℤ g j) → sum_to (suc n) f ≡ sum_to (suc n) g +ℤ (f j -ℤ g j)
     earlier h before = let here = same n (omega arith) (omega arith) in omega (arith, linear)
+
     last : n ≤ j → sum_to (suc n) f ≡ sum_to (suc n) g +ℤ (f j -ℤ g j)
     last h =
         let at : j ≡ n = omega arith in

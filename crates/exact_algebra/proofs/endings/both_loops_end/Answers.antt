@@ -1,5 +1,5 @@
 -- Halving lowers the number, so it never comes back.
-use Rattle.std.proofs.Common.{◌≡◌, ◌≢◌, ℕ, zero, suc, ◌/◌, ◌<◌, Option, None, Some, cond, nat_eq, Bool, true, false, refl, arith}
+use Rattle.std.proofs.Common.{◌≡◌, ◌≢◌, ℕ, ◌/◌, ◌<◌, None, Some, cond, nat_eq, Bool, true, false, refl, arith}
 use Rattle.std.proofs.lemmas.Bool.{eqb-false}
 use Rattle.exact_algebra.proofs.NoReturn.{leads_lower}
 use Rattle.exact_algebra.proofs.endings.both_loops_end.Goals as goal
