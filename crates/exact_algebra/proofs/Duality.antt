@@ -5,7 +5,8 @@ use Rattle.exact_algebra.proofs.Matrices.{row_matrix_column}
 use Rattle.exact_algebra.proofs.Order.{product_not_negative}
 use Rattle.exact_algebra.proofs.RingLaws.{*ℤ_comm, *ℤ_left_comm}
 use Rattle.exact_algebra.proofs.RingTactic.{ring_laws, linear}
-use Rattle.exact_algebra.proofs.Sums.{sum_to-same, sum_to-difference, sum_to-scale, sum_to_not_negative}
+use Rattle.exact_algebra.proofs.SumOrder.{sum_to_not_negative}
+use Rattle.exact_algebra.proofs.Sums.{sum_to-same, sum_to-difference, sum_to-scale}
 use Rattle.exact_algebra.specs.Sums.{sum_to}
 
 module _ (m n : ℕ) (rows : ℕ → ℕ → ℤ) (b c x y : ℕ → ℤ) (d den : ℤ) where

@@ -6,6 +6,7 @@ pub mod Families
 pub mod FiniteChoice
 pub mod FiniteTests
 pub mod Fractions
+pub mod Greatest
 pub mod Identities
 pub mod ListSums
 pub mod Matrices
@@ -16,6 +17,8 @@ pub mod RingLaws
 pub mod RingTactic
 pub mod RisingKeys
 pub mod RunStates
+pub mod StepsLeft
+pub mod SumOrder
 pub mod Sums
 mod ChoiceSamples
 mod RingSamples

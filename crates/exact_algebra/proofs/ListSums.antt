@@ -4,7 +4,8 @@ use Rattle.std.proofs.lemmas.Int.{ints}
 use Rattle.std.proofs.lemmas.List.Elements.{All-head, All-tail}
 use Rattle.exact_algebra.proofs.RingLaws.{*ℤ-+ℤ, *ℤ-zero, +ℤ_idl}
 use Rattle.exact_algebra.proofs.RingTactic.{linear}
-use Rattle.exact_algebra.proofs.Sums.{sum_to-zero, sum_to-first, magnitude-sum}
+use Rattle.exact_algebra.proofs.SumOrder.{magnitude-sum}
+use Rattle.exact_algebra.proofs.Sums.{sum_to-zero, sum_to-first}
 use Rattle.exact_algebra.specs.Sums.{sum_to, sum_over}
 
 pub sum_over-nil : {A : Type 0} (f : A → ℤ) → sum_over f [] ≡ pos 0

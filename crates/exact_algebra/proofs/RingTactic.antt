@@ -1,6 +1,8 @@
 -- Two rulesets that prove polynomial identities and inequalities over ℤ: `simp ring_laws (omega (arith, linear))`.
 -- `ring_laws` multiplies out, moves signs outward and sorts the factors of each product; `linear` then reads each product
--- as one unknown. A hypothesis is brought to the same form by `simp ring_laws at h`.
+-- as one unknown. A hypothesis is brought to the same form by `let given = simp ring_laws at h in`.
+-- `simp` is refused where no product is to be rewritten: write `omega (arith, linear)` there. State the identity over plain
+-- variables, since two spellings of one term can be sorted apart. It serves up to about thirty products of four factors.
 use Rattle.std.proofs.Common.{◌≡◌, ℕ, suc, ◌*◌, ℤ, pos, negsuc, ◌+ℤ◌, ◌*ℤ◌, neg_ℤ, refl, sym, ◌∙◌, arith}
 use borrow.Author.Differences.{up, down, fits_out, same_out, Apart-out, lt_T, le_T, lt_not, le_not, lt-true, lt-false, le-true, le-false, true-lt, false-lt, true-le, false-le, not_negative_out, lt_out, le_out, fits_in, same_in, lt_in, le_in, below_in, at_most_in, not_negative_in, true_is_lt, false_is_lt, true_is_le, false_is_le, sum_is_lem, neg_is, product_is, quot_is, rem_is, abs_is, mag_is, back_is, small_is, read_fits, bits_is}
 use Rattle.exact_algebra.proofs.RingLaws.{*ℤ_assoc, *ℤ_comm, *ℤ_left_comm, *ℤ-+ℤ, +ℤ-*ℤ, neg_ℤ-*ℤ, *ℤ-neg_ℤ, neg_ℤ-neg_ℤ, neg_ℤ-+ℤ, zero-*ℤ, *ℤ-zero, one-*ℤ, *ℤ-one}

@@ -4,7 +4,8 @@ use Rattle.exact_algebra.proofs.Families.{put, put-same, put-other}
 use Rattle.exact_algebra.proofs.Order.{square_not_negative, square_nothing, products_at_most}
 use Rattle.exact_algebra.proofs.RingLaws.{*ℤ-zero, *ℤ-one}
 use Rattle.exact_algebra.proofs.RingTactic.{ring_laws, linear}
-use Rattle.exact_algebra.proofs.Sums.{sum_to-zero, sum_to-suc, sum_to-one, sum_to-difference, sum_to-scale, each_nothing}
+use Rattle.exact_algebra.proofs.SumOrder.{each_nothing}
+use Rattle.exact_algebra.proofs.Sums.{sum_to-zero, sum_to-suc, sum_to-one, sum_to-difference, sum_to-scale}
 use Rattle.exact_algebra.specs.Sums.{sum_to}
 
 linear_combination : (n : ℕ) (f g : ℕ → ℤ) → sum_to n (λ k. pos 2 *ℤ f k -ℤ pos 3 *ℤ g k) ≡ pos 2 *ℤ sum_to n f -ℤ pos 3 *ℤ sum_to n g
