@@ -1,6 +1,6 @@
-//! Two small loops that end by the crate's lemmas: one by a key that rises, one over a machine by a rule that never comes back.
+//! Small loops that end by the crate's lemmas: by a key that rises and by a rule that never comes back, each also over a trait.
 
-ghost use Rattle.std.specs.Prelude.{◌≡◌, ℕ, ◌<◌, ◌≤◌, All, Contains, MatchOption, MatchBool, Option, None, Some, cond, nat_eq, ◌/◌};
+ghost use Rattle.std.specs.Prelude.{◌≡◌, ℕ, ◌<◌, ◌≤◌, All, Contains, MatchOption, MatchBool, List, Option, None, Some, cond, nat_eq, ◌/◌};
 ghost use Rattle.exact_algebra.specs.Runs.{Leads};
 
 /// The first key of the list above `key`.
@@ -19,6 +19,46 @@ fn climb(keys: &[u32], start: u32) -> u32
         key = higher;
     }
     key
+}
+
+/// Something that rises along a ladder of keys.
+trait Climber {
+    ghost rungs: { Self → List ℕ };
+
+    ghost height: { Self → ℕ };
+
+    fn rise(&mut self) -> bool
+        ensures { MatchBool result ((rungs self.new ≡ rungs self.old) × (height self.old < height self.new) × Contains (rungs self.old) (height self.new)) ((self.new ≡ self.old) × All (λ x. x ≤ height self.old) (rungs self.old)) };
+}
+
+/// Rises until no rung is above.
+fn to_the_top<C: Climber>(climber: &mut C)
+    ensures { All (λ x. x ≤ C.height climber.new) (C.rungs climber.new) }
+{
+    while climber.rise() {}
+}
+
+/// A place among keys.
+#[derive(Drop)]
+struct Place<'a> {
+    keys: &'a [u32],
+    at: u32,
+}
+
+impl<'a> Climber for Place<'a> {
+    ghost rungs = { λ p. p.keys.now };
+
+    ghost height = { λ p. p.at };
+
+    fn rise(&mut self) -> bool {
+        match next_above(self.keys, self.at) {
+            Some(higher) => {
+                self.at = higher;
+                true
+            }
+            None => false,
+        }
+    }
 }
 
 /// A machine that takes its content along one rule, which never comes back to a content.
@@ -66,6 +106,12 @@ impl Machine for Halved {
 #[test]
 fn both_loops_end(rt: HostRuntime) {
     assert_eq!(rt; climb(&[3, 9, 4, 7], 0), 9);
+    let mut place = Place {
+        keys: &[3, 9, 4, 7],
+        at: 0,
+    };
+    to_the_top(&mut place);
+    assert_eq!(rt; place.at, 9);
     let mut machine = Halved(200);
     run(&mut machine);
     assert_eq!(rt; machine.0, 0);
