@@ -21,6 +21,7 @@ pub mod StepsLeft
 pub mod SumOrder
 pub mod Sums
 mod ChoiceSamples
+mod HalvingSample
 mod RingSamples
 mod SolverSamples
 mod SumSamples

@@ -21,6 +21,17 @@ fn climb(keys: &[u32], start: u32) -> u32
     key
 }
 
+/// Halves a number until it is 0.
+fn halve_away(start: u8) -> u8
+    ensures { result ≡ 0 }
+{
+    let mut left = start;
+    while left > 0 {
+        left /= 2;
+    }
+    left
+}
+
 /// Something that rises along a ladder of keys.
 trait Climber {
     ghost rungs: { Self → List ℕ };
@@ -104,7 +115,7 @@ impl Machine for Halved {
 }
 
 #[test]
-fn both_loops_end(rt: HostRuntime) {
+fn all_loops_end(rt: HostRuntime) {
     assert_eq!(rt; climb(&[3, 9, 4, 7], 0), 9);
     let mut place = Place {
         keys: &[3, 9, 4, 7],
@@ -112,6 +123,7 @@ fn both_loops_end(rt: HostRuntime) {
     };
     to_the_top(&mut place);
     assert_eq!(rt; place.at, 9);
+    assert_eq!(rt; halve_away(200), 0);
     let mut machine = Halved(200);
     run(&mut machine);
     assert_eq!(rt; machine.0, 0);

@@ -14,7 +14,7 @@
 //! - `RisingKeys`, `StepsLeft`, `NoReturn`, `RunStates`: ends of loops
 //!
 //! Contracts may cite `specs/`: `Sums` (`sum_to`, `sum_over`, `dot`) and `Runs` (`Leads`). The files of `proofs/` whose names
-//! end in `Samples` show uses, and nothing cites them.
+//! end in `Samples` or `Sample` show uses, and no layer above cites them.
 #![tactic(auto)]
 
 #[cfg(test)]
