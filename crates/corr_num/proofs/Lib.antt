@@ -1,0 +1,3 @@
+pub mod ExactQuotients
+pub mod MagnitudeBounds
+pub mod PrintedTerms

@@ -1,0 +1,39 @@
+-- What signed code of 128 bits prints for a value, a product, a sum: the number goes to its bits and back. Each fact says that
+-- it fits, or that it comes back as it was.
+use Rattle.std.proofs.Common.{◌≡◌, ◌^◌, ◌<◌, ◌≤◌, ℤ, ◌+ℤ◌, ◌-ℤ◌, ◌*ℤ◌, unsigned_abs, FitsSigned, to_z, of_z, arith}
+use Rattle.std.specs.Int.{w128}
+use Rattle.std.proofs.lemmas.Int.{fits_signed_from_abs, to_z-of_z}
+use Rattle.corr_num.specs.Narrow.{Narrow}
+use Rattle.corr_num.proofs.MagnitudeBounds.{narrow_product, narrow_products_difference}
+
+-- ---- any number below 2^127
+
+pub fits : (z : ℤ) → unsigned_abs z < 2 ^ 127 → FitsSigned w128 z
+fits z h = fits_signed_from_abs w128 z h
+
+pub returned : (z : ℤ) → unsigned_abs z < 2 ^ 127 → to_z w128 (of_z w128 z) ≡ z
+returned z h = to_z-of_z w128 z (fits z h)
+
+-- ---- a narrow number
+
+pub narrow_fits : (a : ℤ) → Narrow a → FitsSigned w128 a
+narrow_fits a p = fits a (omega arith)
+
+pub narrow_returned : (a : ℤ) → Narrow a → to_z w128 (of_z w128 a) ≡ a
+narrow_returned a p = returned a (omega arith)
+
+-- ---- a product of two narrow numbers
+
+pub product_fits : (a b : ℤ) → Narrow a → Narrow b → FitsSigned w128 (a *ℤ b)
+product_fits a b p q = fits (a *ℤ b) (omega (arith, narrow_product a b p q))
+
+pub product_returned : (a b : ℤ) → Narrow a → Narrow b → to_z w128 (of_z w128 (a *ℤ b)) ≡ a *ℤ b
+product_returned a b p q = returned (a *ℤ b) (omega (arith, narrow_product a b p q))
+
+-- ---- a difference of two such products
+
+pub products_difference_fits : (a b c d : ℤ) → Narrow a → Narrow b → Narrow c → Narrow d → FitsSigned w128 (a *ℤ b -ℤ c *ℤ d)
+products_difference_fits a b c d p q r s = fits (a *ℤ b -ℤ c *ℤ d) (omega (arith, narrow_products_difference a b c d p q r s))
+
+pub products_difference_returned : (a b c d : ℤ) → Narrow a → Narrow b → Narrow c → Narrow d → to_z w128 (of_z w128 (a *ℤ b -ℤ c *ℤ d)) ≡ a *ℤ b -ℤ c *ℤ d
+products_difference_returned a b c d p q r s = returned (a *ℤ b -ℤ c *ℤ d) (omega (arith, narrow_products_difference a b c d p q r s))

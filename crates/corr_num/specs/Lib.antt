@@ -1,0 +1,4 @@
+pub mod DotProduct
+pub mod Fraction
+pub mod Narrow
+pub mod Quotient
