@@ -1,3 +1,5 @@
+pub mod CommonDivisors
 pub mod ExactQuotients
+pub mod LowestTerms
 pub mod MagnitudeBounds
 pub mod PrintedTerms

@@ -21,3 +21,11 @@ narrow_product a b p q = omega (arith, unsigned_abs-mul a b, mul-lt (unsigned_ab
 -- below 2^125
 pub narrow_products_difference : (a b c d : ℤ) → Narrow a → Narrow b → Narrow c → Narrow d → unsigned_abs (a *ℤ b -ℤ c *ℤ d) < 2 ^ 125
 narrow_products_difference a b c d p q r s = omega (arith, narrow_product a b p q, narrow_product c d r s, difference_magnitude (a *ℤ b) (c *ℤ d))
+
+-- up to 2^124
+pub part_product : (a b : ℤ) → unsigned_abs a ≤ 2 ^ 62 → unsigned_abs b ≤ 2 ^ 62 → unsigned_abs (a *ℤ b) ≤ 2 ^ 124
+part_product a b p q = omega (arith, product_magnitude a b (2 ^ 62) (2 ^ 62) p q)
+
+-- up to 2^125
+pub part_products_sum : (a b c d : ℤ) → unsigned_abs a ≤ 2 ^ 62 → unsigned_abs b ≤ 2 ^ 62 → unsigned_abs c ≤ 2 ^ 62 → unsigned_abs d ≤ 2 ^ 62 → unsigned_abs (a *ℤ b +ℤ c *ℤ d) ≤ 2 ^ 125
+part_products_sum a b c d p q r s = omega (arith, part_product a b p q, part_product c d r s, sum_magnitude (a *ℤ b) (c *ℤ d))

@@ -1,4 +1,3 @@
-pub mod DotProduct
 pub mod Fraction
 pub mod Narrow
 pub mod Quotient
