@@ -1,10 +1,10 @@
 -- What signed code of 128 bits prints for a value, a product, a sum: the number goes to its bits and back. Each fact says that
 -- it fits, or that it comes back as it was; `.._passed` says it of what a leaf of this crate answered, where it is passed on.
-use Rattle.std.proofs.Common.{◌≡◌, ◌^◌, ◌<◌, ◌≤◌, ℤ, ◌+ℤ◌, ◌-ℤ◌, ◌*ℤ◌, unsigned_abs, FitsSigned, to_z, of_z, arith}
-use Rattle.std.specs.Int.{w128}
+use Rattle.std.proofs.Common.{◌≡◌, ◌^◌, ◌<◌, ◌≤◌, ℤ, ◌+ℤ◌, ◌-ℤ◌, ◌*ℤ◌, unsigned_abs, FitsSigned, to_z, of_z, ◌∙◌, arith}
+use Rattle.std.specs.Int.{w64, w128}
 use Rattle.std.proofs.lemmas.Int.{fits_signed_from_abs, to_z-of_z}
 use Rattle.corr_num.specs.Narrow.{Narrow}
-use Rattle.corr_num.proofs.MagnitudeBounds.{narrow_product, narrow_products_difference, part_product, part_products_sum}
+use Rattle.corr_num.proofs.MagnitudeBounds.{narrow_product, narrow_products_difference, part_product, part_products_sum, word_magnitude, word_product}
 
 -- ---- any number below 2^127
 
@@ -33,7 +33,21 @@ product_returned a b p q = returned (a *ℤ b) (omega (arith, narrow_product a b
 pub product_passed : (r a b : ℤ) → Narrow a → Narrow b → r ≡ to_z w128 (of_z w128 a) *ℤ to_z w128 (of_z w128 b) → to_z w128 (of_z w128 r) ≡ a *ℤ b
 product_passed r a b p q e = rw (e, narrow_returned a p, narrow_returned b q) (product_returned a b p q)
 
--- ---- a difference of two such products
+-- ---- a product of a narrow number and a number of 64 bits
+
+pub word_product_fits : (a b : ℤ) → Narrow a → FitsSigned w64 b → FitsSigned w128 (a *ℤ b)
+word_product_fits a b p q = fits (a *ℤ b) (omega (arith, word_product a b p q))
+
+pub word_product_returned : (a b : ℤ) → Narrow a → FitsSigned w64 b → to_z w128 (of_z w128 (a *ℤ b)) ≡ a *ℤ b
+word_product_returned a b p q = returned (a *ℤ b) (omega (arith, word_product a b p q))
+
+pub word_product_passed : (r w a b : ℤ) → Narrow a → FitsSigned w64 b → w ≡ to_z w64 (of_z w64 b) → r ≡ to_z w128 (of_z w128 a) *ℤ to_z w128 (of_z w128 w) → to_z w128 (of_z w128 r) ≡ a *ℤ b
+word_product_passed r w a b p q e f =
+    let w_is : w ≡ b = e ∙ to_z-of_z w64 b q in
+    let b_returned : to_z w128 (of_z w128 b) ≡ b = returned b (omega (arith, word_magnitude b q)) in
+    rw (f, w_is, narrow_returned a p, b_returned) (word_product_returned a b p q)
+
+-- ---- a difference of two products of narrow numbers
 
 pub products_difference_fits : (a b c d : ℤ) → Narrow a → Narrow b → Narrow c → Narrow d → FitsSigned w128 (a *ℤ b -ℤ c *ℤ d)
 products_difference_fits a b c d p q r s = fits (a *ℤ b -ℤ c *ℤ d) (omega (arith, narrow_products_difference a b c d p q r s))

@@ -13,4 +13,4 @@ pub use fractions::Frac;
 pub use integers::{difference, product, quotient, sum};
 pub use magnitudes::narrow;
 pub use pivots::pivot_entry;
-pub use products::cmp_products;
+pub use products::{cmp_products, dot};
