@@ -1,6 +1,6 @@
 -- Greatest common divisors of naturals: Euclid's remainders show that two numbers have one, so a common factor of both may be
 -- taken out of it, and a number that divides a product and shares no factor with one side divides the other.
-use Rattle.std.proofs.Common.{◌≡◌, ℕ, zero, suc, ◌+◌, ◌*◌, ◌/◌, ◌%◌, ◌<◌, ◌≤◌, refl, sym, ap, subst, ◌∙◌, arith}
+use Rattle.std.proofs.Common.{◌≡◌, ℕ, zero, suc, ◌*◌, ◌/◌, ◌%◌, ◌<◌, ◌≤◌, refl, sym, ap, subst, ◌∙◌, arith}
 use Rattle.std.specs.Int.{IsGcd, ◌∣◌}
 use Rattle.std.proofs.Math.Nat.{mul-one, mul-dvd-mul_left, mul-div_cancel', dvd_of_mul-dvd-mul_left, dvd-mul_left, dvd-mul_right, eq-one_of_dvd-one, one-dvd}
 use Rattle.std.proofs.lemmas.Nat.{mod_below}

@@ -1,6 +1,6 @@
 -- Division by a positive number: where it leaves nothing over, division toward zero gives the quotient. Both parts of an
 -- integer, above and below 0, are divided alone.
-use Rattle.std.proofs.Common.{◌≡◌, ℕ, ◌+◌, ◌*◌, ◌/◌, ◌≤◌, zero, suc, ℤ, pos, negsuc, ◌*ℤ◌, neg_ℤ, ap, sym, ◌∙◌, refl, arith}
+use Rattle.std.proofs.Common.{◌≡◌, ℕ, ◌*◌, ◌/◌, ◌≤◌, zero, suc, ℤ, pos, negsuc, ◌*ℤ◌, neg_ℤ, ap, sym, ◌∙◌, arith}
 use Rattle.std.specs.Prelude.{int_div, unsigned_abs, ◌<ℤ◌}
 use Rattle.std.proofs.Math.Nat.{div-le_self, div-mul_cancel, mul-div_cancel}
 use Rattle.std.specs.Int.{◌∣◌}

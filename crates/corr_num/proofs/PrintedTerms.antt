@@ -1,6 +1,6 @@
 -- What signed code of 128 bits prints for a value, a product, a sum: the number goes to its bits and back. Each fact says that
 -- it fits, or that it comes back as it was; `.._passed` says it of what a leaf of this crate answered, where it is passed on.
-use Rattle.std.proofs.Common.{◌≡◌, ◌^◌, ◌<◌, ◌≤◌, ℤ, ◌+ℤ◌, ◌-ℤ◌, ◌*ℤ◌, unsigned_abs, FitsSigned, to_z, of_z, ◌∙◌, arith}
+use Rattle.std.proofs.Common.{◌≡◌, ◌^◌, ◌<◌, ◌≤◌, ℤ, ◌+ℤ◌, ◌-ℤ◌, ◌*ℤ◌, unsigned_abs, FitsSigned, to_z, of_z, arith}
 use Rattle.std.specs.Int.{w64, w128}
 use Rattle.std.proofs.lemmas.Int.{fits_signed_from_abs, to_z-of_z}
 use Rattle.corr_num.specs.Narrow.{Narrow}
@@ -33,6 +33,14 @@ product_returned a b p q = returned (a *ℤ b) (omega (arith, narrow_product a b
 pub product_passed : (r a b : ℤ) → Narrow a → Narrow b → r ≡ to_z w128 (of_z w128 a) *ℤ to_z w128 (of_z w128 b) → to_z w128 (of_z w128 r) ≡ a *ℤ b
 product_passed r a b p q e = rw (e, narrow_returned a p, narrow_returned b q) (product_returned a b p q)
 
+-- ---- a number of 64 bits, as it is and as `i128::from` answers it
+
+pub word_returned : (b : ℤ) → FitsSigned w64 b → to_z w128 (of_z w128 b) ≡ b
+word_returned b q = returned b (omega (arith, word_magnitude b q))
+
+pub word_passed : (w b : ℤ) → FitsSigned w64 b → w ≡ to_z w64 (of_z w64 b) → to_z w128 (of_z w128 w) ≡ b
+word_passed w b q e = rw (e, to_z-of_z w64 b q) (word_returned b q)
+
 -- ---- a product of a narrow number and a number of 64 bits
 
 pub word_product_fits : (a b : ℤ) → Narrow a → FitsSigned w64 b → FitsSigned w128 (a *ℤ b)
@@ -42,10 +50,7 @@ pub word_product_returned : (a b : ℤ) → Narrow a → FitsSigned w64 b → to
 word_product_returned a b p q = returned (a *ℤ b) (omega (arith, word_product a b p q))
 
 pub word_product_passed : (r w a b : ℤ) → Narrow a → FitsSigned w64 b → w ≡ to_z w64 (of_z w64 b) → r ≡ to_z w128 (of_z w128 a) *ℤ to_z w128 (of_z w128 w) → to_z w128 (of_z w128 r) ≡ a *ℤ b
-word_product_passed r w a b p q e f =
-    let w_is : w ≡ b = e ∙ to_z-of_z w64 b q in
-    let b_returned : to_z w128 (of_z w128 b) ≡ b = returned b (omega (arith, word_magnitude b q)) in
-    rw (f, w_is, narrow_returned a p, b_returned) (word_product_returned a b p q)
+word_product_passed r w a b p q e f = rw (f, word_passed w b q e, narrow_returned a p) (word_product_returned a b p q)
 
 -- ---- a difference of two products of narrow numbers
 

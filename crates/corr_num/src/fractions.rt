@@ -1,10 +1,9 @@
 ghost use Rattle.std.specs.Prelude.{◌≡◌, ◌^◌, ◌<◌, ◌≤◌, pos, ◌<ℤ◌, unsigned_abs};
 ghost use Rattle.std.specs.Int.{IsGcd};
 
-use std::marker::Model;
-
 use crate::divisors::gcd;
 use crate::integers::{product, quotient, sum};
+use std::marker::Model;
 
 /// A fraction in lowest terms, whose denominator is above 0. Zero is 0/1.
 #[derive(Clone, Copy, Debug)]

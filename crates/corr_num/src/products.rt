@@ -4,10 +4,9 @@ ghost use Rattle.std.specs.Ordering.{int_cmp};
 ghost use Rattle.exact_algebra.specs.Sums.{dot};
 ghost use Rattle.corr_num.specs.Narrow.{Narrow, Wide};
 
-use std::cmp::Ordering;
-
 use crate::integers::{product, sum};
 use crate::magnitudes::narrowed;
+use std::cmp::Ordering;
 
 /// The order of `a*b` against `c*d`.
 pub fn cmp_products(a: i128, b: i128, c: i128, d: i128) -> Ordering

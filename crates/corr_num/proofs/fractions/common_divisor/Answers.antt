@@ -1,5 +1,5 @@
 -- A divisor of the denominator is not above it, so that the cast keeps it, and is not 0.
-use Rattle.std.proofs.Common.{◌<◌, ◌≤◌, ◌^◌, pos, ◌<ℤ◌, unsigned_abs, arith}
+use Rattle.std.proofs.Common.{◌<◌, ◌^◌, unsigned_abs, arith}
 use Rattle.std.specs.Int.{w128, IsGcd}
 use Rattle.std.proofs.Math.Nat.{le_of_dvd, pos_of_dvd_of_pos}
 use Rattle.std.proofs.lemmas.Int.{ints, to_z-of_z, to_z_pos}

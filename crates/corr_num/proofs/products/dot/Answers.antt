@@ -1,12 +1,11 @@
 -- At each turn the pair has the place of as many pairs as came before, so that one product more is added to the sum so far.
-use Rattle.std.proofs.Common.{rules, ◌≡◌, ℕ, suc, ◌+◌, ◌*◌, ◌^◌, ◌<◌, ◌≤◌, List, [], ◌∷◌, ◌++◌, length, take, ℤ, pos, ◌+ℤ◌, ◌*ℤ◌, unsigned_abs, FitsSigned, to_z, of_z, refl, sym, ap, ◌∙◌, add-one, arith}
+use Rattle.std.proofs.Common.{rules, ◌≡◌, ℕ, suc, ◌*◌, ◌^◌, ◌≤◌, List, length, take, ℤ, pos, ◌+ℤ◌, ◌*ℤ◌, unsigned_abs, FitsSigned, to_z, refl, ◌∙◌, add-one, arith}
 use Rattle.std.specs.Int.{w64, w128}
-use Rattle.std.proofs.lemmas.Int.{to_z-of_z}
 use Rattle.std.proofs.lemmas.List.{length_push, take_all}
 use Rattle.std.proofs.lemmas.List.Elements.{All-get_or}
 use Rattle.std.proofs.lemmas.Slice.Zip.{zip_turn, zip_end}
 use Rattle.exact_algebra.specs.Sums.{dot}
-use Rattle.exact_algebra.proofs.Dot.{entry, dot-take_none, dot-take_more}
+use Rattle.exact_algebra.proofs.Dot.{entry, dot-take_more}
 use Rattle.corr_num.specs.Narrow.{Narrow}
 use Rattle.corr_num.proofs.MagnitudeBounds.{word_product}
 use Rattle.corr_num.proofs.PartialSums.{partial_sum_bound, partial_sum_more, partial_sum_returned}

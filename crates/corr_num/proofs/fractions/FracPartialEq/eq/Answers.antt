@@ -1,7 +1,7 @@
 -- Fractions in lowest terms are the same number exactly where they are equal, and the code tests whether they are equal.
 use Rattle.std.proofs.Common.{◌≡◌, ◌↔◌, IsTrue, eqb, of_z, rules}
 use Rattle.std.specs.Int.{w128}
-use Rattle.corr_num.specs.Fraction.{IsSameNumber, IsLowest}
+use Rattle.corr_num.specs.Fraction.{IsLowest}
 use Rattle.corr_num.proofs.LowestTerms.{same_number_is}
 use Rattle.corr_num.proofs.fractions.FracPartialEq.eq.Goals as goal
 
