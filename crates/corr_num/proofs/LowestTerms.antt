@@ -8,6 +8,7 @@ use Rattle.std.proofs.lemmas.Int.{ints, unsigned_abs-mul}
 use Rattle.std.proofs.lemmas.Nat.Gcd.{dvd_antisymm}
 use Rattle.exact_algebra.proofs.RingLaws.{*ℤ_comm}
 use Rattle.exact_algebra.proofs.RingTactic.{ring_laws, linear}
+use Rattle.exact_algebra.proofs.Fractions.{fraction_trans_same}
 use Rattle.exact_algebra.proofs.Order.{cancel_positive, factor_positive}
 use Rattle.corr_num.specs.Fraction.{Fraction, IsSameNumber, IsLowest, IsReduced}
 use Rattle.corr_num.proofs.CommonDivisors.{dvd_of_coprime, IsGcd-divided}
@@ -49,3 +50,13 @@ divided_reduced p r g above some h e f =
 
 pub same_number_is : (p q : Fraction) → IsLowest p → IsLowest q → (p ≡ q) ↔ IsSameNumber p q
 same_number_is p q l m = (λ e. subst (λ (r : Fraction). IsSameNumber p r) e refl, lowest_unique p q l m)
+
+through : (p q r s : Fraction) → pos 0 <ℤ p.den → pos 0 <ℤ q.den → IsSameNumber p r → IsSameNumber q s → IsSameNumber p q → IsSameNumber r s
+through p q r s p_above q_above e f same =
+    let middle = fraction_trans_same r.num r.den p.num p.den q.num q.den (λ z. absurd (omega (arith, ints))) (sym e) same in
+    fraction_trans_same r.num r.den q.num q.den s.num s.den (λ z. absurd (omega (arith, ints))) middle f
+
+-- fractions and their lowest terms are the same numbers
+pub reduced_same : (p q r s : Fraction) → pos 0 <ℤ r.den → pos 0 <ℤ s.den → IsReduced p r → IsReduced q s → IsSameNumber p q ↔ IsSameNumber r s
+reduced_same p q r s r_above s_above h k =
+    (through p q r s h.lowest.positive k.lowest.positive h.same k.same, through r s p q r_above s_above (sym h.same) (sym k.same))

@@ -1,4 +1,4 @@
--- Fractions of whole numbers and their lowest terms (Hardy and Wright 1938, chapter 3).
+-- Fractions of whole numbers, and their lowest terms (Euclid, Elements, book VII, propositions 21 and 22).
 use Rattle.std.specs.Prelude.{◌≡◌, ◌≤◌, ℤ, pos, ◌+ℤ◌, ◌*ℤ◌, ◌<ℤ◌, unsigned_abs}
 use Rattle.std.specs.Int.{IsGcd}
 

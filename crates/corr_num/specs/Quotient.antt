@@ -1,4 +1,4 @@
--- Division that leaves nothing over.
+-- Division that leaves nothing over, as in fraction-free elimination (Bareiss 1968).
 use Rattle.std.specs.Prelude.{◌≡◌, ℤ, ◌*ℤ◌}
 
 -- q is n divided by d, with nothing left over

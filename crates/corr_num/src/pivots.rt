@@ -5,9 +5,11 @@ ghost use Rattle.corr_num.specs.Quotient.{IsQuotient};
 use crate::integers::{difference, product, quotient};
 use crate::magnitudes::narrowed;
 
-/// One entry of an integer tableau after a pivot, `(a*p - b*c) / d`, where `d` is the denominator before the pivot.
+/// One entry of an integer tableau after a pivot, `(a*p - b*c) / d`: `p` is the entry at which it pivots, `d` the denominator
+/// before, and `b` and `c` share the row and the column of `a` (Bareiss 1968).
 ///
-/// Its clauses speak of exact division alone: where `d` leaves a remainder the number in the answer means nothing.
+/// That `d` divides is a premise of the answer and nothing that a caller has to show first: where it leaves a remainder,
+/// the number in the answer means nothing.
 pub fn pivot_entry(a: i128, p: i128, b: i128, c: i128, d: i128) -> Option<i128>
     requires a_narrow { Narrow a }
     requires p_narrow { Narrow p }
