@@ -1,0 +1,67 @@
+-- Each arm takes the progress one node on.
+use Rattle.std.proofs.Common.{ℕ, ◌<◌, None, ap, ◌∙◌, length, sym, refl, inl, rules, arith}
+use lib.ListN.{replicate}
+use Rattle.corr_game.specs.declared.nodes.Node.TheVariants.{Leaf, Chance, Choice}
+use Rattle.tree_recall.proofs.Progress.{eq-same_side, same_from_side, other_set, met_or_next, passed_on, moved_on, few_kids, started, all_met}
+use Rattle.tree_recall.proofs.recalls.side_recall.Goals as goal
+use Rattle.tree_recall.proofs.recalls.side_recall.Goals.{in-Leaf, in-Chance, in-Choice+then-eq+in_ok-meet-in-Choice, in-Choice+else-eq}
+
+pub pass_on-requires : goal.pass_on-requires
+pass_on-requires c =
+    let node = rw c.in-Chance.is at c.node.ensures.item in
+    let kids = c.node.ensures.rules.each_node c.loop-n.n (Chance c.in-Chance.kids) node in
+    λ k d h. let kid = kids.2 k d h in omega (arith, c.loop-n.invariant.room)
+
+pub meet-requires : goal.meet-requires
+meet-requires c =
+    let node = rw c.in-Choice.is at c.node.ensures.item in
+    let same = same_from_side c.in-Choice.mover c.args.side (sym (eq-same_side c.in-Choice.mover c.args.side) ∙ (sym c.eq.ensures ∙ c.if-eq.true)) in
+    met_or_next c.args.side c.args.game.now c.loop-n.n c.in-Choice.set c.in-Choice.kids c.loop-n.above.items c.loop-n.met.items c.loop-n.invariant (rw same at node)
+
+pub pass_moves-requires-clause-behind : goal.pass_moves-requires-clause-behind
+pass_moves-requires-clause-behind c =
+    let node = rw c.in-Choice.is at c.node.ensures.item in
+    let kids = c.node.ensures.rules.each_node c.loop-n.n (Choice c.in-Choice.mover c.in-Choice.set c.in-Choice.kids) node in
+    λ k d h. let kid = kids.2 k d h in omega (arith, c.loop-n.invariant.room)
+
+pub pass_moves-requires-clause-few : goal.pass_moves-requires-clause-few
+pass_moves-requires-clause-few c =
+    few_kids c.args.game.now c.node.ensures.rules c.loop-n.n c.in-Choice.mover c.in-Choice.set c.in-Choice.kids (rw c.in-Choice.is at c.node.ensures.item)
+
+pub pass_on-requires-else-eq : goal.pass_on-requires-else-eq
+pass_on-requires-else-eq c =
+    let node = rw c.in-Choice.is at c.node.ensures.item in
+    let kids = c.node.ensures.rules.each_node c.loop-n.n (Choice c.in-Choice.mover c.in-Choice.set c.in-Choice.kids) node in
+    λ k d h. let kid = kids.2 k d h in omega (arith, c.loop-n.invariant.room)
+
+pub loop-n-init : goal.loop-n-init
+loop-n-init c =
+    rw c.new-met.ensures.items (started c.args.side c.args.game.now c.len.ensures.rules c.in_ok-above.above.items (c.in_ok-above.ensures.items_if_clones_equal (λ y h. search rules) ∙ ap (λ (n : ℕ). replicate n None) c.len.ensures.count))
+
+pub loop-n-preserved : goal.loop-n-preserved
+loop-n-preserved c =
+    let side = c.args.side in
+    let g = c.args.game.now in
+    let n = c.loop-n.n in
+    let above = c.loop-n.above.items in
+    let met = c.loop-n.met.items in
+    let p = c.loop-n.invariant in
+    let low : n < length g.nodes = omega arith in
+    let read = c.index-here.ensures in
+    elim c.match-node.branch [
+      | in-Leaf w ↦ rw (w.above-is, w.met-is) (passed_on side g n (Leaf w.in-Leaf.pay) above above met _ p low (rw w.in-Leaf.is at c.node.ensures.item) refl read refl (λ k none. inl refl))
+      | in-Chance w ↦ rw (w.above-is, w.met-is) (passed_on side g n (Chance w.in-Chance.kids) above _ met _ p low (rw w.in-Chance.is at c.node.ensures.item) refl read w.pass_on.ensures.count w.pass_on.ensures.each)
+      | in-Choice+then-eq+in_ok-meet-in-Choice w ↦
+          let same = same_from_side w.in-Choice.mover side (sym (eq-same_side w.in-Choice.mover side) ∙ (sym w.eq.ensures ∙ w.if-eq.true)) in
+          let node = rw (w.in-Choice.is, same) at c.node.ensures.item in
+          rw (w.above-is, w.met-is) (moved_on side g c.node.ensures.rules n w.in-Choice.set w.in-Choice.kids above _ met _ _ p low node read w.pass_moves.ensures.count w.in_ok-meet-in-Choice.ensures.known w.in_ok-meet-in-Choice.ensures.added w.pass_moves.ensures.each)
+      | in-Choice+else-eq w ↦
+          let apart = other_set side w.in-Choice.mover w.in-Choice.set w.in-Choice.kids (sym (eq-same_side w.in-Choice.mover side) ∙ (sym w.eq.ensures ∙ w.if-eq.false)) in
+          rw (w.above-is, w.met-is) (passed_on side g n (Choice w.in-Choice.mover w.in-Choice.set w.in-Choice.kids) above _ met _ p low (rw w.in-Choice.is at c.node.ensures.item) apart read w.pass_on-else-eq.ensures.count w.pass_on-else-eq.ensures.each)
+    ]
+
+pub returns-clause-count : goal.returns-clause-count
+returns-clause-count c = all_met c.args.side c.args.game.now c.loop-n.n c.loop-n.above.items c.loop-n.met.items c.loop-n.invariant (omega arith)
+
+pub returns-clause-earlier : goal.returns-clause-earlier
+returns-clause-earlier c = c.loop-n.invariant.earlier
