@@ -1,0 +1,4 @@
+pub mod Adding
+pub mod Few
+pub mod Holding
+pub mod NodeSeqs

@@ -1,0 +1,8 @@
+-- Each entry is as it was or was replaced, and there are as many.
+use Rattle.std.proofs.Common.{◌≡◌, ◌⊎◌, ℕ, length, slice_index}
+use Rattle.sequences.proofs.nodes.pass_on.Given as goal
+
+abbrev pub invariant-loop-k : goal.invariant-loop-k
+invariant-loop-k l =
+    (length l.seqs.items ≡ length l.initial.seqs.items)
+    × ((k : ℕ) → (slice_index l.seqs.items k ≡ slice_index l.initial.seqs.items k) ⊎ (slice_index l.seqs.items k ≡ l.seq))

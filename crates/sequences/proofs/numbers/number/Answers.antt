@@ -1,0 +1,37 @@
+-- One set more is numbered; the numbers stay below 4096, since a player has fewer actions than the game has nodes.
+use Rattle.std.proofs.Common.{◌≡◌, length, refl, arith}
+use Rattle.corr_game.specs.Game.{sets_of}
+use Rattle.sequences.proofs.Few.{few_actions}
+use Rattle.sequences.proofs.Adding.{taken, part-few, own_low, added, no_part, whole}
+use Rattle.sequences.proofs.numbers.number.Goals as goal
+
+pub number_of-own-requires : goal.number_of-own-requires
+number_of-own-requires c =
+    let few = few_actions c.args.side c.args.game.now c.sets-set-end.ensures.rules in
+    let below = c.requires.earlier c.args.side c.loop-set.set c.last.result c.last.ensures in
+    rw c.deref.ensures.value (taken (sets_of c.args.side c.args.game.now) c.loop-set.set c.loop-set.places.items c.loop-set.lasts.items c.last.result c.loop-set.invariant (omega arith) few below)
+
+pub overflow_cast-first : goal.overflow_cast-first
+overflow_cast-first c =
+    let few = few_actions c.args.side c.args.game.now c.sets-set-end.ensures.rules in
+    omega (arith, part-few (sets_of c.args.side c.args.game.now) c.loop-set.set c.loop-set.places.items c.loop-set.lasts.items c.loop-set.invariant few)
+
+pub overflow_add-first : goal.overflow_add-first
+overflow_add-first c =
+    let few = few_actions c.args.side c.args.game.now c.sets-set-end.ensures.rules in
+    omega (arith, part-few (sets_of c.args.side c.args.game.now) c.loop-set.set c.loop-set.places.items c.loop-set.lasts.items c.loop-set.invariant few)
+
+pub loop-set-preserved : goal.loop-set-preserved
+loop-set-preserved c =
+    let sets = sets_of c.args.side c.args.game.now in
+    let own = own_low c.loop-set.places.items c.loop-set.lasts.items c.last.result c.number_of-own.result c.loop-set.invariant.numbered (rw c.deref.ensures.value at c.number_of-own.ensures) in
+    rw (c.in_ok-push.ensures.items, c.in_ok-add_moves.ensures)
+    (added sets (record { 0 = c.loop-set.set }) c.loop-set.places.items c.loop-set.lasts.items _ c.set.result.now c.loop-set.invariant (omega arith) c.set.ensures.item own (omega arith) refl)
+
+pub loop-set-init : goal.loop-set-init
+loop-set-init c = rw (c.new-places.ensures.items, c.new-lasts.ensures.items) (no_part (sets_of c.args.side c.args.game.now))
+
+pub returns : goal.returns
+returns c =
+    let few = few_actions c.args.side c.args.game.now c.sets-set-end.ensures.rules in
+    whole (sets_of c.args.side c.args.game.now) c.loop-set.set c.loop-set.places.items c.loop-set.lasts.items c.loop-set.invariant (omega arith) few
