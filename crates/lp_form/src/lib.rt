@@ -1,0 +1,20 @@
+//! Linear programs with whole coefficients, and the small values that solvers and reports share.
+//!
+//! It stands on `corr_game` for the two players. An `Lp` is seen as its number of columns, the stored entries of each
+//! row in ascending order of their columns, the right sides and the two payoff rows; `coefficient`, `right_of` and
+//! `payoff_of` read it as a matrix, 0 where nothing is stored. The layer above uses `Lp`, whose `row` lends a row's
+//! entries to loops that pass over the zeros, `NumList`, and the names of places in a tableau.
+#![tactic(auto)]
+
+mod entries;
+mod numbers;
+mod places;
+mod programs;
+
+pub use entries::Entry;
+pub use numbers::NumList;
+pub use places::{Place, RowName};
+pub use programs::Lp;
+
+#[cfg(test)]
+mod tests;
