@@ -11,11 +11,11 @@ eqb-same n at h = grind (arith, nat_tests)
 eqb-apart : (n at : ℕ) → at < n → eqb n at ≡ false
 eqb-apart n at h = grind (arith, nat_tests)
 
-from_last-here : {A : Type 0} (step : ℕ → Node → (ℕ → A) → A) (none : A) (at : ℕ) (node : Node) (rest : List Node) → from_last step none at (node ∷ rest) at ≡ step at node (from_last step none (at + 1) rest)
+pub from_last-here : {A : Type 0} (step : ℕ → Node → (ℕ → A) → A) (none : A) (at : ℕ) (node : Node) (rest : List Node) → from_last step none at (node ∷ rest) at ≡ step at node (from_last step none (at + 1) rest)
 unfolding from_last
 from_last-here step none at node rest = rw (eqb-same at at refl, from_last) refl
 
-from_last-behind : {A : Type 0} (step : ℕ → Node → (ℕ → A) → A) (none : A) (at : ℕ) (node : Node) (rest : List Node) (n : ℕ) → at < n → from_last step none at (node ∷ rest) n ≡ from_last step none (at + 1) rest n
+pub from_last-behind : {A : Type 0} (step : ℕ → Node → (ℕ → A) → A) (none : A) (at : ℕ) (node : Node) (rest : List Node) (n : ℕ) → at < n → from_last step none at (node ∷ rest) n ≡ from_last step none (at + 1) rest n
 unfolding from_last
 from_last-behind step none at node rest n h = rw (eqb-apart n at h, from_last) refl
 

@@ -37,6 +37,13 @@ impl Plan {
     {
         self.entries[set.0 as usize]
     }
+
+    /// The entries in the order of the sets.
+    pub fn entries(&self) -> &[Option<u32>]
+        ensures all { result.now ≡ self.now }
+    {
+        &self.entries
+    }
 }
 
 /// A full choice of a player: an action at each set.
