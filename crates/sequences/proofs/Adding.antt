@@ -18,12 +18,12 @@ within [] k h = absurd (omega arith)
 within (x ∷ xs) zero h = (x, refl)
 within (x ∷ xs) (suc k) h = within xs k (omega arith)
 
-still : {X : Type 0} (xs ys : List X) (k : ℕ) (x : X) → slice_get xs k ≡ Some x → slice_get (xs ++ ys) k ≡ Some x
+pub still : {X : Type 0} (xs ys : List X) (k : ℕ) (x : X) → slice_get xs k ≡ Some x → slice_get (xs ++ ys) k ≡ Some x
 still [] ys k x h = absurd (cc)
 still (z ∷ zs) ys zero x h = h
 still (z ∷ zs) ys (suc k) x h = still zs ys k x h
 
-pushed : {X : Type 0} (xs : List X) (y : X) (k : ℕ) → k ≡ length xs → slice_get (xs ++ y ∷ []) k ≡ Some y
+pub pushed : {X : Type 0} (xs : List X) (y : X) (k : ℕ) → k ≡ length xs → slice_get (xs ++ y ∷ []) k ≡ Some y
 pushed [] y k e = rw e refl
 pushed (z ∷ zs) y zero e = absurd (omega arith)
 pushed (z ∷ zs) y (suc k) e = pushed zs y k (omega arith)
