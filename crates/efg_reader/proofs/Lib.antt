@@ -1,2 +1,5 @@
 pub mod Again
+pub mod Assembling
 pub mod Found
+pub mod OneTree
+pub mod Widths

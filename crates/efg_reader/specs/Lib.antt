@@ -1,3 +1,11 @@
 pub mod Amount
+pub mod Assembly
+pub mod Event
+pub mod File
 pub mod FirstForm
+pub mod Machine
 pub mod Reading
+pub mod Words
+pub mod Outline
+pub mod Places
+pub mod RawGame

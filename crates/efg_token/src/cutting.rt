@@ -1,6 +1,6 @@
 //! Lengths of what stands at the front of some bytes.
 
-ghost use Rattle.std.specs.Prelude.{◌≡◌, ◌<◌, ◌≤◌, ◌↔◌, length, take, drop, IfSome, IsNone, slice_index};
+ghost use Rattle.std.specs.Prelude.{false, ◌≡◌, ◌<◌, ◌≤◌, ◌↔◌, length, take, drop, IfSome, IsNone, slice_index};
 ghost use Rattle.efg_token.specs.Bytes.{is_white, is_in_word};
 ghost use Rattle.efg_token.specs.Front.{gap, word_length, text_length, opened, found, unended};
 ghost use Rattle.efg_token.specs.Seen.{lexeme};
@@ -26,6 +26,7 @@ pub fn is_in_word(byte: u8) -> bool
 pub fn gap(bytes: &[u8]) -> usize
     ensures value { result ≡ gap bytes.now }
     ensures within { result ≤ length bytes.now }
+    ensures stops { result < length bytes.now → is_white (slice_index bytes.now result) ≡ false }
 {
     let mut n = 0;
     while n < bytes.len() && is_white(bytes[n]) {
@@ -64,10 +65,12 @@ pub fn text_length(bytes: &[u8]) -> Option<usize>
 
 /// The token whose first byte is the first of these, and how many bytes it takes; none if it is a text without end.
 pub fn opened<'a>(bytes: &'a [u8]) -> Option<(Token<'a>, usize)>
-    requires { 0 < length bytes.now }
+    requires some { 0 < length bytes.now }
+    requires not_white { is_white (slice_index bytes.now 0) ≡ false }
     ensures token { IfSome result (λ it. opened bytes.now ≡ found (lexeme it.0) (drop it.1 bytes.now)) }
     ensures within { IfSome result (λ it. it.1 ≤ length bytes.now) }
     ensures spelled { IfSome result (λ it. take it.1 bytes.now ≡ spelling (lexeme it.0)) }
+    ensures longer { IfSome result (λ it. 0 < it.1) }
     ensures unended { IsNone result ↔ (opened bytes.now ≡ unended) }
 {
     match bytes[0] {

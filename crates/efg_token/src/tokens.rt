@@ -44,6 +44,7 @@ impl<'a> Tokens<'a> {
         ensures token { IfFound result (λ spot. front (left self.old) ≡ found (lexeme spot.token) (left self.new)) }
         ensures at { IfFound result (λ spot. spot.at ≡ self.old.at + gap (left self.old)) }
         ensures end { IfFound result (λ spot. spot.end ≡ self.new.at) }
+        ensures span { IfFound result (λ spot. spot.at < spot.end) }
         ensures spelled { IfFound result (λ spot. slice_range self.old.bytes spot.at spot.end ≡ spelling (lexeme spot.token)) }
 
         // A text opens there and doesn't end.

@@ -1,0 +1,314 @@
+//! The rules at the nodes of a file, one line after the other.
+
+ghost use Rattle.std.specs.Prelude.{◌≡◌, ◌+◌, ◌≤◌, ◌<◌, ◌^◌, length, vec_len, Some, IsTrue, IfOk, OnOk};
+ghost use Rattle.indexmap.specs.IndexMap.{index_map_len};
+ghost use Rattle.efg_reader.specs.Event.{is_fit};
+ghost use Rattle.efg_reader.specs.Outline.{places};
+ghost use Rattle.efg_reader.specs.Places.{awaited};
+
+use crate::chances::{common_denominator, has_negative, sums_to_one};
+use crate::entry::{Entry, Turn, read_entry};
+use crate::events::{Bare, Event};
+use crate::first_lists::{FirstList, OutcomePays, define_set, list_at};
+use crate::node_line::{ActLines, LineKind, NodeLine};
+use crate::numbers::Number;
+use crate::outline::Outline;
+use crate::raw_file::RawFile;
+use crate::raw_game::{FracList, RawGame};
+use crate::refusal::FileRefusal;
+use crate::tree::assemble;
+use corr_game::{SetId, SetInfo, Side};
+use indexmap::IndexMap;
+use std::alloc::{AllocError as NoMemory, Global};
+
+/// The game that a file says.
+///
+/// The first rule that a node breaks is the refusal, nodes in file order and rules in that of `FileRefusal`. `Players`
+/// comes before all nodes, `MissingNode` behind them.
+pub fn build(alloc: Global, file: RawFile) -> Result<RawGame, FileRefusal> {
+    if file.players() != 2 {
+        return Err(FileRefusal::Players {
+            count: file.players(),
+        });
+    }
+    let mut builder = Builder::new(alloc);
+    for line in file.lines() {
+        builder.add(line)?;
+    }
+    builder.finish()
+}
+
+/// What the lines so far say.
+#[derive(Drop)]
+struct Builder<'a> {
+    alloc: Global,
+    chance: IndexMap<u32, FirstList<'a>>,
+    one: IndexMap<u32, FirstList<'a>>,
+    two: IndexMap<u32, FirstList<'a>>,
+    outcomes: IndexMap<u32, OutcomePays>,
+    outline: Outline,
+    nodes: Vec<Bare>,
+}
+
+impl<'a> Builder<'a> {
+    fn new(alloc: Global) -> Builder<'a>
+        ensures nodes { vec_len result.nodes ≡ 0 }
+        ensures tree { awaited 1 result.nodes.items ≡ Some (places result.outline) }
+        ensures one { index_map_len result.one ≡ 0 }
+        ensures two { index_map_len result.two ≡ 0 }
+    {
+        Builder {
+            alloc,
+            chance: IndexMap::new(alloc),
+            one: IndexMap::new(alloc),
+            two: IndexMap::new(alloc),
+            outcomes: IndexMap::new(alloc),
+            outline: Outline::new(alloc),
+            nodes: Vec::new(alloc),
+        }
+    }
+
+    /// The next line, or the first rule that it breaks.
+    fn add(&mut self, line: &'a NodeLine) -> Result<(), FileRefusal>
+        requires nodes { vec_len self.old.nodes ≤ 4096 }
+        requires tree { awaited 1 self.old.nodes.items ≡ Some (places self.old.outline) }
+        requires one { index_map_len self.old.one ≤ vec_len self.old.nodes }
+        requires two { index_map_len self.old.two ≤ vec_len self.old.nodes }
+        ensures nodes { OnOk result (vec_len self.new.nodes ≤ 4096) }
+        ensures tree { OnOk result (awaited 1 self.new.nodes.items ≡ Some (places self.new.outline)) }
+        ensures one { OnOk result (index_map_len self.new.one ≤ vec_len self.new.nodes) }
+        ensures two { OnOk result (index_map_len self.new.two ≤ vec_len self.new.nodes) }
+    {
+        let node = self.nodes.len() as u32;
+        self.check_place(node)?;
+        let Some(entry) = read_entry(self.alloc, line)? else {
+            return Err(FileRefusal::NumberTooWide { node });
+        };
+        let Entry {
+            turn,
+            outcome,
+            pays,
+        } = entry;
+        let (event, kids) = self.take_turn(acts_of(&line.kind), turn, node)?;
+        let pays = self.take_outcome(line.pays.is_some(), outcome, pays.as_slice(), node)?;
+        self.outline.place(kids)?;
+        self.nodes.push(Bare {
+            event,
+            kids,
+            one: pays.one.frac(),
+            two: pays.two.frac(),
+        })?;
+        Ok(())
+    }
+
+    /// The rules on the place of a node in the tree.
+    fn check_place(&self, node: u32) -> Result<(), FileRefusal>
+        ensures few { OnOk result (node < 4096) }
+        ensures waits { OnOk result (0 < places self.now.outline) }
+    {
+        if self.outline.is_closed() {
+            return Err(FileRefusal::ExtraNode { node });
+        }
+        if node >= 4096 {
+            return Err(FileRefusal::TooManyNodes { node });
+        }
+        if self.outline.depth() > 256 {
+            return Err(FileRefusal::TooDeep { node });
+        }
+        Ok(())
+    }
+
+    /// The rules on who moves, the list of actions and the set; what happens at the node, and how many kids it has.
+    fn take_turn(
+        &mut self,
+        acts: Option<&'a ActLines>,
+        turn: Turn,
+        node: u32,
+    ) -> Result<(Event, u32), FileRefusal>
+        requires one { index_map_len self.old.one < 4096 }
+        requires two { index_map_len self.old.two < 4096 }
+        ensures nodes { self.new.nodes ≡ self.old.nodes }
+        ensures outline { self.new.outline ≡ self.old.outline }
+        ensures fits { IfOk result (λ it. IsTrue (is_fit it.0 it.1)) }
+        ensures one { OnOk result (index_map_len self.new.one ≤ index_map_len self.old.one + 1) }
+        ensures two { OnOk result (index_map_len self.new.two ≤ index_map_len self.old.two + 1) }
+    {
+        match turn {
+            Turn::Leaf => Ok((Event::Leaf, 0)),
+            Turn::Chance { set, probs } => {
+                let list = checked_list(acts, probs, node)?;
+                take_chance(self.alloc, &mut self.chance, set, list, node)
+            }
+            Turn::Player { player: 1, set } => {
+                let list = checked_list(acts, Vec::new(self.alloc), node)?;
+                take_choice(&mut self.one, Side::One, set, list, node)
+            }
+            Turn::Player { player: 2, set } => {
+                let list = checked_list(acts, Vec::new(self.alloc), node)?;
+                take_choice(&mut self.two, Side::Two, set, list, node)
+            }
+            Turn::Player { .. } => Err(FileRefusal::PlayerUnknown { node }),
+        }
+    }
+
+    /// The rules on the outcome; its payoffs.
+    fn take_outcome(
+        &mut self,
+        is_listed: bool,
+        outcome: u32,
+        pays: &[Number],
+        node: u32,
+    ) -> Result<OutcomePays, FileRefusal>
+        ensures nodes { self.new.nodes ≡ self.old.nodes }
+        ensures outline { self.new.outline ≡ self.old.outline }
+        ensures one { self.new.one ≡ self.old.one }
+        ensures two { self.new.two ≡ self.old.two }
+    {
+        let known = if outcome == 0 {
+            Some(OutcomePays::nothing())
+        } else {
+            self.outcomes.get(&outcome).copied()
+        };
+        if !is_listed {
+            return known.ok_or(FileRefusal::OutcomeUnknown { node });
+        }
+        if pays.len() != 2 {
+            return Err(FileRefusal::PayoffCount { node });
+        }
+        let pays = OutcomePays {
+            one: pays[0],
+            two: pays[1],
+        };
+        match known {
+            Some(known) => {
+                if known == pays {
+                    Ok(pays)
+                } else {
+                    Err(FileRefusal::OutcomeDiffers { node })
+                }
+            }
+            None => {
+                self.outcomes.insert(outcome, pays)?;
+                Ok(pays)
+            }
+        }
+    }
+
+    /// The game, of which all lines have been taken.
+    fn finish(self) -> Result<RawGame, FileRefusal>
+        requires nodes { vec_len self.nodes ≤ 4096 }
+        requires tree { awaited 1 self.nodes.items ≡ Some (places self.outline) }
+        requires one { index_map_len self.one ≤ vec_len self.nodes }
+        requires two { index_map_len self.two ≤ vec_len self.nodes }
+    {
+        if !self.outline.is_closed() {
+            return Err(FileRefusal::MissingNode {
+                node: self.nodes.len() as u32,
+            });
+        }
+        let one = infos(self.alloc, &self.one)?;
+        let two = infos(self.alloc, &self.two)?;
+        let nodes = assemble(self.alloc, self.nodes)?;
+        Ok(RawGame::of(nodes, one, two))
+    }
+}
+
+/// The list of a line, where it has one.
+fn acts_of(kind: &LineKind) -> Option<&ActLines> {
+    match kind {
+        LineKind::Chance { acts, .. } => acts.as_ref(),
+        LineKind::Player { acts, .. } => acts.as_ref(),
+        LineKind::Leaf => None,
+    }
+}
+
+/// The rules on the number of actions.
+fn checked_list<'a>(
+    acts: Option<&'a ActLines>,
+    probs: Vec<Number>,
+    node: u32,
+) -> Result<Option<FirstList<'a>>, FileRefusal> {
+    let Some(acts) = acts else {
+        return Ok(None);
+    };
+    match acts.len() {
+        0 => Err(FileRefusal::NoActions { node }),
+        1..=64 => Ok(Some(FirstList { acts, probs })),
+        _ => Err(FileRefusal::TooManyActions { node }),
+    }
+}
+
+/// The rules on the probabilities of a list, and on the set.
+fn take_chance<'a>(
+    alloc: Global,
+    lists: &mut IndexMap<u32, FirstList<'a>>,
+    set: u32,
+    list: Option<FirstList<'a>>,
+    node: u32,
+) -> Result<(Event, u32), FileRefusal>
+    ensures { IfOk result (λ it. IsTrue (is_fit it.0 it.1)) }
+{
+    if let Some(list) = &list {
+        check_chances(list.probs.as_slice(), node)?;
+    }
+    let index = define_set(lists, set, list, node)?;
+    let first = list_at(lists, index);
+    let probs = fracs_of(alloc, first.probs.as_slice())?;
+    Ok((Event::Chance { probs }, first.acts.len() as u32))
+}
+
+fn check_chances(probs: &[Number], node: u32) -> Result<(), FileRefusal> {
+    if has_negative(probs) {
+        return Err(FileRefusal::ChanceNegative { node });
+    }
+    let Some(common) = common_denominator(probs) else {
+        return Err(FileRefusal::ChanceTooFine { node });
+    };
+    if !sums_to_one(probs, common) {
+        return Err(FileRefusal::ChanceSum { node });
+    }
+    Ok(())
+}
+
+/// The rules on the set.
+fn take_choice<'a>(
+    lists: &mut IndexMap<u32, FirstList<'a>>,
+    side: Side,
+    set: u32,
+    list: Option<FirstList<'a>>,
+    node: u32,
+) -> Result<(Event, u32), FileRefusal>
+    requires { index_map_len lists.old < 4096 }
+    ensures grows { OnOk result (index_map_len lists.new ≤ index_map_len lists.old + 1) }
+    ensures fits { IfOk result (λ it. IsTrue (is_fit it.0 it.1)) }
+{
+    let index = define_set(lists, set, list, node)?;
+    let kids = list_at(lists, index).acts.len() as u32;
+    let set = SetId(index as u32);
+    Ok((Event::Choice { side, set }, kids))
+}
+
+fn fracs_of(alloc: Global, numbers: &[Number]) -> Result<FracList, NoMemory> {
+    let mut fracs = FracList::new(alloc);
+    for number in numbers {
+        fracs.push(number.frac())?;
+    }
+    Ok(fracs)
+}
+
+/// The sets of a player, in the order of their first lines.
+fn infos(alloc: Global, lists: &IndexMap<u32, FirstList>) -> Result<Vec<SetInfo>, NoMemory>
+    ensures count { IfOk result (λ infos. length infos.items ≡ index_map_len lists.now) }
+{
+    let mut infos = Vec::new(alloc);
+    for index in 0..lists.len() {
+        if let Some((file, first)) = lists.get_index(index) {
+            let actions = first.acts.len() as u32;
+            infos.push(SetInfo {
+                file: *file,
+                actions,
+            })?;
+        }
+    }
+    Ok(infos)
+}

@@ -1,0 +1,93 @@
+//! The numbers of a node line.
+
+ghost use Rattle.std.specs.Prelude.{◌≡◌, ◌≤◌, ◌<◌, ◌^◌, length, vec_len, IfOk, IfSome};
+
+use crate::node_line::{ActLines, LineKind, NodeLine, PayWords};
+use crate::numbers::{Number, number_value, whole_value};
+use std::alloc::{AllocError as NoMemory, Global};
+
+/// Who moves at a line, and at which set; in a chance line the probabilities that it lists.
+#[derive(Debug, Drop)]
+pub enum Turn {
+    Chance { set: u32, probs: Vec<Number> },
+    Player { player: u32, set: u32 },
+    Leaf,
+}
+
+/// The numbers of a node line; a list that it doesn't have is empty.
+#[derive(Debug, Drop)]
+pub struct Entry {
+    pub turn: Turn,
+    pub outcome: u32,
+    pub pays: Vec<Number>,
+}
+
+/// The numbers of a line; none where one of them passes its limit.
+pub fn read_entry(alloc: Global, line: &NodeLine) -> Result<Option<Entry>, NoMemory> {
+    let Some(turn) = read_turn(alloc, &line.kind)? else {
+        return Ok(None);
+    };
+    let Some(outcome) = whole_value(line.outcome.as_slice()) else {
+        return Ok(None);
+    };
+    let Some(pays) = read_pays(alloc, &line.pays)? else {
+        return Ok(None);
+    };
+    Ok(Some(Entry {
+        turn,
+        outcome,
+        pays,
+    }))
+}
+
+fn read_turn(alloc: Global, kind: &LineKind) -> Result<Option<Turn>, NoMemory> {
+    match kind {
+        LineKind::Chance { set, acts } => {
+            let Some(set) = whole_value(set.as_slice()) else {
+                return Ok(None);
+            };
+            let Some(probs) = read_probs(alloc, acts)? else {
+                return Ok(None);
+            };
+            Ok(Some(Turn::Chance { set, probs }))
+        }
+        LineKind::Player { player, set, .. } => {
+            let Some(player) = whole_value(player.as_slice()) else {
+                return Ok(None);
+            };
+            let Some(set) = whole_value(set.as_slice()) else {
+                return Ok(None);
+            };
+            Ok(Some(Turn::Player { player, set }))
+        }
+        LineKind::Leaf => Ok(Some(Turn::Leaf)),
+    }
+}
+
+fn read_probs(alloc: Global, acts: &Option<ActLines>) -> Result<Option<Vec<Number>>, NoMemory> {
+    let mut probs = Vec::new(alloc);
+    if let Some(acts) = acts {
+        for k in 0..acts.len() {
+            if let Some(word) = &acts.at(k).prob {
+                let Some(prob) = number_value(word.as_slice()) else {
+                    return Ok(None);
+                };
+                probs.push(prob)?;
+            }
+        }
+    }
+    Ok(Some(probs))
+}
+
+fn read_pays(alloc: Global, words: &Option<PayWords>) -> Result<Option<Vec<Number>>, NoMemory> {
+    let mut pays = Vec::new(alloc);
+    if let Some(words) = words {
+        for k in 0..words.len() {
+            let Some(pay) = number_value(words.at(k).as_slice()) else {
+                return Ok(None);
+            };
+            pays.push(pay)?;
+        }
+    }
+    Ok(Some(pays))
+}

@@ -1,0 +1,63 @@
+ghost use Rattle.std.specs.Prelude.{◌≡◌, ◌<◌, ◌-◌, false, slice_index, vec_len, sum};
+
+use std::alloc::{AllocError as NoMemory, Global};
+
+/// The nodes above the next one, while a tree is read in preorder: how many kids each of them still waits for.
+#[derive(Debug, Drop)]
+pub struct Outline {
+    awaited: Vec<u32>,
+    begun: bool,
+    ghost idle: { begun ≡ false → vec_len awaited ≡ 0 },
+    ghost waits: { 0 < vec_len awaited → 0 < slice_index awaited.items (vec_len awaited - 1) },
+}
+
+impl Outline {
+    ghost use Rattle.std.specs.Prelude.{◌+◌, ◌≤◌, ◌↔◌, OnOk, IsTrue};
+    ghost use Rattle.efg_reader.specs.Outline.{places};
+
+    pub fn new(alloc: Global) -> Outline
+        ensures { places result ≡ 1 }
+    {
+        Outline {
+            awaited: Vec::new(alloc),
+            begun: false,
+        }
+    }
+
+    /// Whether every action of every node has its subtree.
+    pub fn is_closed(&self) -> bool
+        ensures { IsTrue result ↔ (places self.now ≡ 0) }
+    {
+        self.begun && self.awaited.is_empty()
+    }
+
+    /// How many nodes are above the next one.
+    pub fn depth(&self) -> usize {
+        self.awaited.len()
+    }
+
+    /// The next node has this many kids.
+    pub fn place(&mut self, kids: u32) -> Result<(), NoMemory>
+        requires { 0 < places self.old }
+        ensures { OnOk result (places self.new + 1 ≡ places self.old + kids) }
+    {
+        let above = self.awaited.len();
+        self.awaited.push(kids)?;
+        if above > 0 {
+            self.awaited[above - 1] -= 1;
+        }
+        drop_complete(&mut self.awaited);
+        self.begun = true;
+        Ok(())
+    }
+}
+
+/// Takes off the nodes that wait for no more kids.
+fn drop_complete(awaited: &mut Vec<u32>)
+    ensures sum { sum awaited.new.items ≡ sum awaited.old.items }
+    ensures waits { 0 < vec_len awaited.new → 0 < slice_index awaited.new.items (vec_len awaited.new - 1) }
+{
+    while let Some(0) = awaited.last() {
+        awaited.pop();
+    }
+}
