@@ -5,6 +5,7 @@ pub mod File
 pub mod FirstForm
 pub mod Machine
 pub mod Reading
+pub mod Refusal
 pub mod Words
 pub mod Outline
 pub mod Places

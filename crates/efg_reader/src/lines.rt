@@ -1,4 +1,7 @@
 ghost use Rattle.std.specs.Prelude.{◌≡◌, ◌+◌, ◌^◌, ◌<◌, ◌≤◌, length, OnOk};
+ghost use Rattle.efg_reader.specs.declared.state.State.TheVariants.{Format};
+ghost use Rattle.efg_reader.specs.Machine.{IsAccepted, StopsAt};
+ghost use Rattle.efg_reader.specs.Refusal.{MatchSyntax};
 
 use crate::draft::Draft;
 use crate::node_line::NodeLine;
@@ -15,6 +18,7 @@ use std::mem;
 /// no file begins, a text that doesn't end among them; where the bytes only end too early, it is their number.
 pub fn read_lines(alloc: Global, bytes: &[u8]) -> Result<RawFile, FileRefusal>
     requires { length bytes.now ≤ 2 ^ 30 }
+    ensures { MatchSyntax result (IsAccepted bytes.now) (StopsAt bytes.now) }
 {
     let mut tokens = Tokens::new(bytes);
     let mut reader = Reader::new(alloc);
@@ -48,6 +52,7 @@ struct Reader {
 impl Reader {
     fn new(alloc: Global) -> Reader
         ensures players { result.players ≡ 0 }
+        ensures state { result.state ≡ Format }
     {
         Reader {
             alloc,
@@ -62,6 +67,7 @@ impl Reader {
     fn step(&mut self, token: Token, next: State) -> Result<(), NoMemory>
         requires { self.old.players + 1 < 2 ^ 32 }
         ensures players { OnOk result (self.new.players ≤ self.old.players + 1) }
+        ensures state { OnOk result (self.new.state ≡ next) }
     {
         if let (State::Players, Token::Text(_)) = (self.state, token) {
             self.players += 1;

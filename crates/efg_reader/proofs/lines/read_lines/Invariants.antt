@@ -1,5 +1,9 @@
--- Each token ends behind its first byte, so the tokens read are no more than the bytes passed.
-use Rattle.std.proofs.Common.{length, ◌-◌, ◌≡◌, ◌≤◌}
+-- The tokens so far lead to the state. Each token ends behind its first byte, so they are no more than the bytes passed.
+use Rattle.std.proofs.Common.{length, ◌-◌, ◌≡◌, ◌≤◌, List}
+use Rattle.efg_token.specs.Cursor.{left}
+use Rattle.efg_token.specs.Lexeme.{Lexeme}
+use Rattle.efg_reader.specs.declared.state.State.TheVariants.{Format}
+use Rattle.efg_reader.specs.Machine.{Leads}
 use Rattle.efg_reader.proofs.lines.read_lines.Given as goal
 
 abbrev pub invariant-loop-next : goal.invariant-loop-next
@@ -7,6 +11,8 @@ invariant-loop-next l = record {
   input : l.tokens.bytes ≡ l.bytes;
   within : l.tokens.at ≤ length l.bytes;
   counted : l.reader.players ≤ l.tokens.at;
+  passed : List Lexeme;
+  leads : Leads Format l.bytes passed l.reader.state (left l.tokens);
 }
 
 abbrev pub decreases-loop-next : goal.decreases-loop-next
