@@ -1,7 +1,8 @@
 -- A tableau reads its basis and entries only within m rows and n columns, so that lists which agree there with functions do as
 -- well: what holds of one family holds of another that is equal at each index.
-use Rattle.std.proofs.Common.{◌≡◌, ℕ, ◌<◌, ◌≤◌, ℤ, pos, ◌+ℤ◌, ◌-ℤ◌, ◌*ℤ◌, ◌<ℤ◌, refl, sym, ap, ap₂, subst, ◌∙◌, arith}
-use Rattle.exact_algebra.proofs.Families.{put}
+use Rattle.std.proofs.Common.{List, length, get_or, set, get_or-set_same, get_or-set_other, ◌≡◌, ◌≢◌, ⊎_elim, ℕ, ◌<◌, ◌≤◌, ℤ, pos, ◌+ℤ◌, ◌-ℤ◌, ◌*ℤ◌, ◌<ℤ◌, refl, sym, ap, ap₂, subst, ◌∙◌, arith}
+use Rattle.std.proofs.lemmas.Bool.{cases_eq}
+use Rattle.exact_algebra.proofs.Families.{put, put-same, put-other}
 use Rattle.exact_algebra.proofs.Sums.{sum_to-same}
 use Rattle.exact_linear.proofs.Determinant.{Agree, agree_put, det-same}
 use Rattle.exact_linear.specs.Pivot.{turned, pivot_row, IsPivot}
@@ -44,3 +45,10 @@ same_pivot {h} {n} {r} {s} {den} {matrix} {matrix'} {after} {after'} in_rows in_
   where
     one_row : (j : ℕ) → j < n → pivot_row matrix' r s j ≡ pivot_row matrix r s j
     one_row j l = ap₂ turned (before r s in_rows in_columns) (before r j in_rows l)
+
+-- A list with its element r changed, as a family.
+pub list_put : {A : Type 0} (xs : List A) (r : ℕ) (v d : A) → r < length xs → (k : ℕ) → get_or (set xs r v) k d ≡ put (λ i. get_or xs i d) r v k
+list_put xs r v d h k = ⊎_elim
+    (λ (e : k ≡ r). rw (e, put-same (λ i. get_or xs i d) r v) (get_or-set_same xs r v d h))
+    (λ (e : k ≢ r). get_or-set_other xs r k v d e ∙ sym (put-other (λ i. get_or xs i d) r v k e))
+    (cases_eq k r)

@@ -1,25 +1,24 @@
 -- The measure of a loop by Bland's rule, from the basis alone. The rule as a function of the basis: the tableau by determinants,
 -- the first column that improves, the first row of least ratio. A step that the loop takes by the rule is the one that the
 -- function takes, since both choices are unique in an order of the columns that tells them apart.
-use Rattle.std.proofs.Common.{◌≡◌, ◌≢◌, ◌⊎◌, Bool, true, false, cond, ltb, lt-ltb, le-ltb, ℕ, zero, suc, ◌^◌, ◌<◌, ◌≤◌, ℤ, pos, ◌*ℤ◌, ◌≤ℤ◌, ◌<ℤ◌, Option, Some, None, refl, sym, ap, ap₂, subst, ◌∙◌, ⊎_elim, inl, inr, arith}
-use Rattle.std.proofs.lemmas.Bool.{cases_eq, cases_lt, cond-true, cond-false}
+use Rattle.std.proofs.Common.{◌≡◌, ◌≢◌, Bool, true, false, cond, ltb, lt-ltb, le-ltb, ℕ, ◌^◌, ◌<◌, ◌≤◌, ℤ, pos, ◌*ℤ◌, ◌≤ℤ◌, ◌<ℤ◌, Option, Some, None, refl, sym, ap, ap₂, subst, ◌∙◌, ⊎_elim, inl, inr, arith}
+use Rattle.std.proofs.lemmas.Bool.{cases_lt, cond-true, cond-false}
 use Rattle.std.proofs.lemmas.Int.{ints}
 use lib.Signed.{lt_z}
 use Rattle.exact_algebra.proofs.Families.{put, put-same, put-other}
 use Rattle.exact_algebra.proofs.FiniteChoice.{BestBelow, best, no_best, best_below}
 use Rattle.exact_algebra.proofs.NoReturn.{steps_left}
 use Rattle.exact_linear.proofs.Alike.{same_tableau, same_costs}
-use Rattle.exact_linear.proofs.BlandEnds.{Content, IsPricedTableau, BlandMove, bland_bounded, bland_smaller}
+use Rattle.exact_linear.proofs.BlandEnds.{IsPricedTableau, BlandMove, bland_smaller}
 use Rattle.exact_linear.proofs.Determinant.{put_cases}
 use Rattle.exact_linear.proofs.Feasibility.{feasible_kept}
 use Rattle.exact_linear.proofs.OwnTableau.{own, own_matrix_is, own_row_is, own_tableau}
 use Rattle.exact_linear.proofs.PivotKeeps.{pivot_keeps}
-use Rattle.exact_linear.proofs.PivotMade.{pivoted_rows, rows_pivot}
+use Rattle.exact_linear.proofs.PivotMade.{rows_pivot}
 use Rattle.exact_linear.proofs.RatioOrder.{NoLater, first_row_of}
 use Rattle.exact_linear.proofs.Tableaus.{basic_once}
 use Rattle.exact_linear.specs.BlandRule.{IsBlandStep}
-use Rattle.exact_linear.specs.Pivot.{turned, pivot_row, IsPivot}
-use Rattle.exact_linear.specs.Simplex.{IsFeasible, IsLeastRatio}
+use Rattle.exact_linear.specs.Simplex.{IsFeasible}
 use Rattle.exact_linear.specs.Tableau.{IsTableau, IsCostRow}
 
 below_test : {a b : ℤ} → a <ℤ b → lt_z a b ≡ true
@@ -47,16 +46,16 @@ trimmed_same m first second same = λ d. λ k. each k d
 step_alike : {m n q side r s : ℕ} {rank : ℕ → ℕ} {basis basis' : ℕ → ℕ} {matrix matrix' : ℕ → ℕ → ℤ} {row row' : ℕ → ℤ} → q ≤ n → side < n → ((k : ℕ) → k < m → basis' k ≡ basis k) → ((i j : ℕ) → i < m → j < n → matrix' i j ≡ matrix i j) → ((j : ℕ) → j < n → row' j ≡ row j) →
     IsBlandStep m q side rank basis matrix row r s → IsBlandStep m q side rank basis' matrix' row' r s
 step_alike {m} {n} {q} {side} {r} {s} {rank} {basis} {basis'} {matrix} {matrix'} {row} {row'} inside right one_basis one_matrix one_row step = record {
-      offered = step.offered;
-      improves = subst (λ x. x <ℤ pos 0) (sym (one_row s entering)) step.improves;
-      first_column = λ j h l. subst (λ x. pos 0 ≤ℤ x) (sym (one_row j (omega arith))) (step.first_column j h l);
-      ratio = record {
-        within = step.ratio.within;
-        positive = subst (λ x. pos 0 <ℤ x) (sym corner) step.ratio.positive;
-        least = λ i h over. let given = step.ratio.least i h (subst (λ x. pos 0 <ℤ x) (one_matrix i s h entering) over) in rw (level, one_matrix i s h entering, one_matrix i side h right, corner) given;
-      };
-      first_row = λ i h over tie. rw (one_basis r step.ratio.within, one_basis i h) (step.first_row i h (subst (λ x. pos 0 <ℤ x) (one_matrix i s h entering) over) (rw (level, one_matrix i s h entering, one_matrix i side h right, corner) at tie));
-    }
+  offered = step.offered;
+  improves = subst (λ x. x <ℤ pos 0) (sym (one_row s entering)) step.improves;
+  first_column = λ j h l. subst (λ x. pos 0 ≤ℤ x) (sym (one_row j (omega arith))) (step.first_column j h l);
+  ratio = record {
+    within = step.ratio.within;
+    positive = subst (λ x. pos 0 <ℤ x) (sym corner) step.ratio.positive;
+    least = λ i h over. let given = step.ratio.least i h (subst (λ x. pos 0 <ℤ x) (one_matrix i s h entering) over) in rw (level, one_matrix i s h entering, one_matrix i side h right, corner) given;
+  };
+  first_row = λ i h over tie. rw (one_basis r step.ratio.within, one_basis i h) (step.first_row i h (subst (λ x. pos 0 <ℤ x) (one_matrix i s h entering) over) (rw (level, one_matrix i s h entering, one_matrix i side h right, corner) at tie));
+}
   where
     entering : s < n
     entering = omega (arith, step.offered)
@@ -192,9 +191,9 @@ module _ (m n q side : ℕ) (rank : ℕ → ℕ) (columns : ℕ → ℕ → ℤ)
 
             column_is : u ≡ s
             column_is = distinct u s (omega arith) (omega (arith, step.offered)) (⊎_elim
-              (λ (l : rank u < rank s). let high = step.first_column u h l in absurd (omega (arith, ints)))
-              (λ (l : rank s ≤ rank u). let no_more = low in omega arith)
-              (cases_lt (rank u) (rank s)))
+                (λ (l : rank u < rank s). let high = step.first_column u h l in absurd (omega (arith, ints)))
+                (λ (l : rank s ≤ rank u). let no_more = low in omega arith)
+                (cases_lt (rank u) (rank s)))
 
     -- The bases that have a feasible tableau.
     Kept : (ℕ → ℕ) → Type 0
@@ -211,7 +210,7 @@ module _ (m n q side : ℕ) (rank : ℕ → ℕ) (columns : ℕ → ℕ → ℤ)
         let pivoted = pivot_keeps t.tableau taken.r taken.s step.ratio.within entering other pivot in
         let feasible = feasible_kept side right (λ i h. h) t.tableau.positive pivot step.ratio t.feasible in
         subst (λ b. IsPricedTableau m n side columns costs (own m n columns costs b)) (sym taken.is)
-          (own_tableau m n columns costs (same_tableau (λ k h. trimmed_at m (put basis taken.r taken.s) k h) refl (λ i j h l. refl) pivoted) right feasible)
+        (own_tableau m n columns costs (same_tableau (λ k h. trimmed_at m (put basis taken.r taken.s) k h) refl (λ i j h l. refl) pivoted) right feasible)
 
     by_rule : (basis after : ℕ → ℕ) → Kept basis → next_basis basis ≡ Some after → BlandMove m q side rank (own m n columns costs basis) (own m n columns costs after)
     by_rule basis after t e =

@@ -1,11 +1,11 @@
 -- A row that is 0 in the columns of the program and in the right side takes no part in a pivot at a program column: its entry in
 -- the pivot column is 0, so that it is multiplied and divided alone. Nor can the ratio rule choose it.
-use Rattle.std.proofs.Common.{◌≡◌, ◌≢◌, ℕ, ◌<◌, ◌≤◌, ℤ, pos, ◌-ℤ◌, ◌*ℤ◌, ◌<ℤ◌, sym, ap, ap₂, ◌∙◌, arith}
+use Rattle.std.proofs.Common.{◌≡◌, ◌≢◌, ℕ, ◌<◌, ◌≤◌, ℤ, pos, ◌*ℤ◌, ◌<ℤ◌, sym, ap, ◌∙◌, arith}
 use Rattle.std.proofs.lemmas.Int.{ints}
 use Rattle.exact_algebra.proofs.Order.{cancel_positive}
 use Rattle.exact_algebra.proofs.RingLaws.{*ℤ_comm, *ℤ-zero, zero-*ℤ}
 use Rattle.exact_algebra.proofs.RingTactic.{linear}
-use Rattle.exact_linear.specs.Pivot.{pivot_row, numerator, IsPivot}
+use Rattle.exact_linear.specs.Pivot.{pivot_row, IsPivot}
 use Rattle.exact_linear.specs.Simplex.{IsInert, IsLeastRatio}
 
 pub inert_kept : {h n r s : ℕ} {den : ℤ} {matrix after : ℕ → ℕ → ℤ} (q side i : ℕ) → IsPivot h n r s den matrix after → pos 0 <ℤ den → q ≤ n → side < n → s < q → i < h → i ≢ r → IsInert q side matrix i → IsInert q side after i

@@ -58,3 +58,14 @@ module _ {m n : ℕ} {columns : ℕ → ℕ → ℤ} {costs row : ℕ → ℤ} {
 -- the second row counts only in columns where the first one is 0.
 pub second_row : (q : ℕ) (first second x : ℕ → ℤ) → ((j : ℕ) → j < q → pos 0 ≤ℤ x j) → ((j : ℕ) → j < q → pos 0 ≤ℤ first j) → ((j : ℕ) → j < q → first j ≡ pos 0 → pos 0 ≤ℤ second j) → sum_to q (λ j. first j *ℤ x j) ≡ pos 0 → pos 0 ≤ℤ sum_to q (λ j. second j *ℤ x j)
 second_row q first second x over optimal then_optimal none = sum_to_not_negative q (λ j. second j *ℤ x j) (λ j l. ⊎_elim (λ (e : first j ≡ pos 0). product_not_negative (then_optimal j l e) (over j l)) (λ (e : x j ≡ pos 0). rw (e, *ℤ-zero (second j)) (omega (arith, ints))) (no_zero_divisors (first j) (x j) (each_nothing q j (λ i. first i *ℤ x i) l (λ i p. product_not_negative (optimal i p) (over i p)) none)))
+
+-- So among the solutions of the greatest first payoff none has a greater second one than the second row's right side.
+pub second_at_most : {m n : ℕ} {columns : ℕ → ℕ → ℤ} {costs costs' row row' : ℕ → ℤ} {basis : ℕ → ℕ} {den : ℤ} {matrix : ℕ → ℕ → ℤ} → IsTableau m n columns basis den matrix → IsCostRow m n costs basis den matrix row → IsCostRow m n costs' basis den matrix row' → (q side : ℕ) → q ≤ n → side < n →
+    (payoff payoff' : ℕ → ℤ) → ((j : ℕ) → j < q → costs j ≡ neg_ℤ (payoff j)) → ((j : ℕ) → j < q → costs' j ≡ neg_ℤ (payoff' j)) → costs side ≡ pos 0 → costs' side ≡ pos 0 → (total : ℤ) (x : ℕ → ℤ) → IsSolution m q side columns total x →
+    ((j : ℕ) → j < q → pos 0 ≤ℤ row j) → ((j : ℕ) → j < q → row j ≡ pos 0 → pos 0 ≤ℤ row' j) → den *ℤ sum_to q (λ j. payoff j *ℤ x j) ≡ total *ℤ row side → (den *ℤ sum_to q (λ j. payoff' j *ℤ x j)) ≤ℤ (total *ℤ row' side)
+second_at_most {row = row} {row' = row'} t z y q side inside right payoff payoff' negated negated' free free' total x solution optimal then_optimal greatest =
+    let one = payoff_of t z q side inside right payoff negated free total x solution.makes in
+    let two = payoff_of t y q side inside right payoff' negated' free' total x solution.makes in
+    let none : sum_to q (λ j. row j *ℤ x j) ≡ pos 0 = omega (arith, linear) in
+    let slack = second_row q row row' x solution.positive optimal then_optimal none in
+    omega (arith, linear)

@@ -1,5 +1,5 @@
 -- The tableau of a basis by determinants alone: where a basis has a tableau, this is it, entry by entry.
-use Rattle.std.proofs.Common.{◌≡◌, ◌≢◌, ◌⊎◌, ℕ, zero, suc, ◌<◌, ℤ, pos, negsuc, ◌+ℤ◌, ◌-ℤ◌, ◌*ℤ◌, ◌≤ℤ◌, ◌<ℤ◌, neg_ℤ, refl, sym, ap, ap₂, subst, ◌∙◌, ⊎_elim, inl, inr, arith}
+use Rattle.std.proofs.Common.{◌≡◌, ℕ, ◌<◌, ℤ, pos, negsuc, ◌+ℤ◌, ◌-ℤ◌, ◌*ℤ◌, ◌≤ℤ◌, ◌<ℤ◌, neg_ℤ, refl, sym, ap, subst, ◌∙◌, ⊎_elim, arith}
 use Rattle.std.proofs.lemmas.Int.{ints}
 use Rattle.exact_algebra.proofs.Families.{put}
 use Rattle.exact_algebra.proofs.Order.{no_zero_divisors}
@@ -72,7 +72,7 @@ module _ (m n : ℕ) (columns : ℕ → ℕ → ℤ) (costs : ℕ → ℤ) where
     pub own_tableau : {side : ℕ} → side < n → IsFeasible m side matrix → IsPricedTableau m n side columns costs (own basis)
     unfolding own_row
     own_tableau {side} right feasible = record {
-        tableau = same_tableau (λ k h. refl) own_den_is own_matrix_is t;
-        priced = record { at = λ j l. omega (arith, linear) };
-        feasible = record { at = λ i h. subst (λ x. pos 0 ≤ℤ x) (sym (own_matrix_is i side h right)) (feasible.at i h) };
-      }
+      tableau = same_tableau (λ k h. refl) own_den_is own_matrix_is t;
+      priced = record { at = λ j l. omega (arith, linear) };
+      feasible = record { at = λ i h. subst (λ x. pos 0 ≤ℤ x) (sym (own_matrix_is i side h right)) (feasible.at i h) };
+    }

@@ -1,12 +1,12 @@
 -- The order in which Bland's rule takes the rows: by the ratio of right side to entry, and by rank where ratios are equal. It is
 -- total and transitive among the rows with a positive entry, by fractions compared across.
-use Rattle.std.proofs.Common.{◌≡◌, ◌≢◌, ◌⊎◌, true, ℕ, ◌<◌, ◌≤◌, ℤ, pos, ◌*ℤ◌, ◌≤ℤ◌, ◌<ℤ◌, sym, ⊎_elim, inl, inr, arith}
+use Rattle.std.proofs.Common.{◌≡◌, ◌≢◌, ◌⊎◌, ℕ, ◌<◌, ◌≤◌, ℤ, pos, ◌*ℤ◌, ◌≤ℤ◌, ◌<ℤ◌, sym, ⊎_elim, inl, inr, arith}
 use Rattle.std.proofs.lemmas.Bool.{cases_lt}
 use Rattle.std.proofs.lemmas.Int.{ints}
 use lib.Signed.{lt_z}
 use Rattle.exact_algebra.proofs.FiniteChoice.{BestBelow, best_below}
 use Rattle.exact_algebra.proofs.Fractions.{fraction_trans, fraction_trans_below, fraction_trans_same}
-use Rattle.exact_algebra.proofs.Order.{at_most_or_above, below_or_at_least}
+use Rattle.exact_algebra.proofs.Order.{below_or_at_least}
 
 module _ (entry side : ℕ → ℤ) (rank : ℕ → ℕ) where
   -- Row k comes no later than row i.
@@ -25,9 +25,9 @@ module _ (entry side : ℕ → ℤ) (rank : ℕ → ℕ) where
       by : NoLater i j → NoLater j k → NoLater i k
       by (inl low) (inl high) = inl (fraction_trans_below (side k) (entry k) (side j) (entry j) (side i) (entry i) r q p high (omega (arith, ints)))
       by (inl low) (inr (high, l)) = ⊎_elim
-        (λ (g : (side k *ℤ entry i) <ℤ (side i *ℤ entry k)). inl g)
-        (λ (g : (side i *ℤ entry k) ≤ℤ (side k *ℤ entry i)). let back = fraction_trans (side i) (entry i) (side k) (entry k) (side j) (entry j) p r q g (omega (arith, ints)) in absurd (omega (arith, ints)))
-        (below_or_at_least (side k *ℤ entry i) (side i *ℤ entry k))
+          (λ (g : (side k *ℤ entry i) <ℤ (side i *ℤ entry k)). inl g)
+          (λ (g : (side i *ℤ entry k) ≤ℤ (side k *ℤ entry i)). let back = fraction_trans (side i) (entry i) (side k) (entry k) (side j) (entry j) p r q g (omega (arith, ints)) in absurd (omega (arith, ints)))
+          (below_or_at_least (side k *ℤ entry i) (side i *ℤ entry k))
       by (inr (low, l)) (inl high) = inl (fraction_trans_below (side k) (entry k) (side j) (entry j) (side i) (entry i) r q p high (omega (arith, ints)))
       by (inr (low, l)) (inr (high, h)) = let other : entry j ≢ pos 0 = λ e. omega (arith, ints) in inr (fraction_trans_same (side k) (entry k) (side j) (entry j) (side i) (entry i) other high low, omega arith)
 

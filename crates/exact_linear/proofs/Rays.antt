@@ -1,13 +1,13 @@
 -- Where payoffs are bounded over the solutions, a column that improves has a row for the ratio rule. If not, the basic solution
 -- stays a solution while the column rises by any number and the basic columns rise by their entries' opposites; its payoff rises
 -- with the number.
-use Rattle.std.proofs.Common.{◌≡◌, ◌≢◌, ◌⊎◌, Bool, true, false, ℕ, ◌<◌, ◌≤◌, cond, eqb, eq-eqb, ne_eqb, ℤ, pos, ◌+ℤ◌, ◌-ℤ◌, ◌*ℤ◌, ◌≤ℤ◌, ◌<ℤ◌, neg_ℤ, refl, sym, ap, ap₂, ◌∙◌, ⊎_elim, inl, inr, arith}
+use Rattle.std.proofs.Common.{◌≡◌, ◌≢◌, ◌⊎◌, ℕ, ◌<◌, ◌≤◌, cond, eqb, eq-eqb, ne_eqb, ℤ, pos, ◌+ℤ◌, ◌-ℤ◌, ◌*ℤ◌, ◌≤ℤ◌, ◌<ℤ◌, neg_ℤ, refl, ap, ◌∙◌, ⊎_elim, inl, inr, arith}
 use Rattle.std.proofs.lemmas.Bool.{cases_eq, cond-true, cond-false}
 use Rattle.std.proofs.lemmas.Int.{ints}
 use lib.Signed.{lt_z}
 use Rattle.exact_algebra.proofs.FiniteChoice.{FirstBelow, first, no_first, first_below}
-use Rattle.exact_algebra.proofs.Order.{product_not_negative, product_not_positive, product_positive, cancel_positive, at_most_or_above, times_at_most}
-use Rattle.exact_algebra.proofs.RingLaws.{*ℤ-+ℤ, *ℤ_comm, *ℤ-zero, zero-*ℤ}
+use Rattle.exact_algebra.proofs.Order.{product_not_negative, product_not_positive, cancel_positive, times_at_most}
+use Rattle.exact_algebra.proofs.RingLaws.{*ℤ-+ℤ, *ℤ-zero, zero-*ℤ}
 use Rattle.exact_algebra.proofs.RingTactic.{ring_laws, linear}
 use Rattle.exact_algebra.proofs.Sums.{sum_to-same, sum_to-add, sum_to-difference, sum_to-scale, sum_to-one, sum_to-nothing}
 use Rattle.exact_algebra.specs.Sums.{sum_to}

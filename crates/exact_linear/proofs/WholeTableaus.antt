@@ -1,7 +1,7 @@
 -- The whole matrix of rows and cost rows over one start: the start, each pivot's exact divisions, and one basis, from what is
 -- shown of the rows and of each cost row.
-use Rattle.std.proofs.Common.{◌≡◌, ◌≢◌, ◌⊎◌, ℕ, ◌<◌, ◌≤◌, ℤ, pos, ◌*ℤ◌, refl, ⊎_elim, inl, inr, arith}
-use Rattle.std.proofs.lemmas.Bool.{cases_eq, cases_lt}
+use Rattle.std.proofs.Common.{◌≡◌, ◌≢◌, ℕ, ◌<◌, ◌≤◌, ℤ, pos, ◌*ℤ◌, refl, ⊎_elim, arith}
+use Rattle.std.proofs.lemmas.Bool.{cases_lt}
 use Rattle.exact_algebra.proofs.Families.{put}
 use Rattle.exact_linear.proofs.CostRows.{cost_exact, cost_keeps, priced}
 use Rattle.exact_linear.proofs.Determinant.{unit}
