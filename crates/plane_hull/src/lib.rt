@@ -11,7 +11,7 @@ mod directions;
 mod sides;
 
 pub use angles::cmp_angle;
-pub use belts::{belt, BeltFault};
+pub use belts::{BeltFault, belt};
 pub use directions::Dir;
 pub use sides::{Point, SideList, SideRow};
 
