@@ -1,0 +1,5 @@
+pub mod Eliminating
+pub mod ExactEntries
+pub mod PartialSums
+pub mod Pivoting
+pub mod Pushing

@@ -1,0 +1,21 @@
+//! Integer tableaus of linear programs: whole numbers over one denominator, changed by exact pivots.
+//!
+//! It answers with the pivoted tableau, or with a place at which that has an entry of 2^62 or more. It stands on `lp_form`
+//! for the program and the names of places, and on `corr_num` for exact arithmetic. The layer above asks and pivots any
+//! `Tableau`; `Dense` keeps all entries, and its pivots take no memory.
+#![tactic(auto)]
+
+mod dense;
+mod ends;
+mod rows;
+mod starts;
+mod tableaus;
+
+pub use dense::Dense;
+pub use ends::PivotEnd;
+pub use lp_form::{NumList, Place, RowName};
+pub use starts::starts_narrow;
+pub use tableaus::Tableau;
+
+#[cfg(test)]
+mod tests;
