@@ -6,6 +6,7 @@ pub mod FirstForm
 pub mod Machine
 pub mod Reading
 pub mod Refusal
+pub mod Sets
 pub mod Words
 pub mod Outline
 pub mod Places

@@ -1,10 +1,11 @@
 //! The rules at the nodes of a file, one line after the other.
 
-ghost use Rattle.std.specs.Prelude.{◌≡◌, ◌+◌, ◌≤◌, ◌<◌, ◌^◌, length, vec_len, Some, IsTrue, IfOk, OnOk};
+ghost use Rattle.std.specs.Prelude.{◌≡◌, ◌+◌, ◌≤◌, ◌<◌, ◌^◌, length, vec_len, map, slice_get, Some, IsTrue, IfOk, OnOk};
 ghost use Rattle.indexmap.specs.IndexMap.{index_map_len};
 ghost use Rattle.efg_reader.specs.Event.{is_fit};
 ghost use Rattle.efg_reader.specs.Outline.{places};
 ghost use Rattle.efg_reader.specs.Places.{awaited};
+ghost use Rattle.efg_reader.specs.Sets.{info_of};
 
 use crate::chances::{common_denominator, has_negative, sums_to_one};
 use crate::entry::{Entry, Turn, read_entry};
@@ -299,16 +300,25 @@ fn fracs_of(alloc: Global, numbers: &[Number]) -> Result<FracList, NoMemory> {
 /// The sets of a player, in the order of their first lines.
 fn infos(alloc: Global, lists: &IndexMap<u32, FirstList>) -> Result<Vec<SetInfo>, NoMemory>
     ensures count { IfOk result (λ infos. length infos.items ≡ index_map_len lists.now) }
+    ensures each { IfOk result (λ infos. infos.items ≡ map info_of lists.now.entries) }
 {
     let mut infos = Vec::new(alloc);
     for index in 0..lists.len() {
-        if let Some((file, first)) = lists.get_index(index) {
-            let actions = first.acts.len() as u32;
-            infos.push(SetInfo {
-                file: *file,
-                actions,
-            })?;
-        }
+        infos.push(info_at(lists, index))?;
     }
     Ok(infos)
+}
+
+/// The set with this index.
+fn info_at(lists: &IndexMap<u32, FirstList>, index: usize) -> SetInfo
+    requires { index < index_map_len lists.now }
+    ensures { slice_get (map info_of lists.now.entries) index ≡ Some result }
+{
+    match lists.get_index(index) {
+        Some((file, first)) => SetInfo {
+            file: *file,
+            actions: first.acts.len() as u32,
+        },
+        None => unreachable!(),
+    }
 }

@@ -1,7 +1,9 @@
-//! What a game file says.
+//! What a game file says: its node lines by `read_lines`, and the tree, the sets and the payoffs of each node's own
+//! outcome by `build`. A file is refused by the first rule that it breaks, as `FileRefusal` lists them.
 //!
-//! So far it tells the files of one terminal node alone, by `first_form`. It stands on the tokens of `efg_token` and
-//! the payoffs of `corr_game`. The layer above may use that `first_form` finds exactly the amounts of such a file.
+//! It stands on the tokens of `efg_token`, the numbers of `corr_num` and the nodes and sets of `corr_game`. The layer
+//! above may use that `Syntax` names exactly the place where the machine of the grammar stops, and that the nodes of a
+//! `RawGame` are one tree in preorder. `first_form` tells the files of one terminal node with whole amounts.
 #![tactic(auto)]
 
 mod amounts;
