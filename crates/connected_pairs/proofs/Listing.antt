@@ -1,15 +1,14 @@
 -- One pair more is gone over: a relevant one is put behind the others, so those keep their indices.
-use Rattle.std.proofs.Common.{◌≡◌, ℕ, ◌+◌, ◌*◌, ◌^◌, ◌<◌, ◌≤◌, Bool, true, false, List, [], ◌∷◌, ◌++◌, Option, Some, None, length, slice_get, refl, sym, subst, ap, ◌∙◌, inl, inr, arith}
+use Rattle.std.proofs.Common.{◌≡◌, ℕ, ◌+◌, ◌*◌, ◌^◌, ◌<◌, ◌≤◌, Bool, true, false, List, [], ◌∷◌, ◌++◌, Option, Some, None, length, refl, ap, ◌∙◌, inl, inr, arith}
 use Rattle.std.proofs.Math.Nat.{mul-le-mul_left}
 use Rattle.std.proofs.lemmas.List.{length_push}
 use Rattle.std.proofs.lemmas.Nat.{mul-add-lt}
 use Rattle.tree_recall.proofs.Progress.{slice_get-push}
 use Rattle.sequences.proofs.Adding.{still, pushed}
-use Rattle.corr_game.specs.declared.sides.Side.{Side}
 use Rattle.corr_game.specs.declared.sides.Side.TheVariants.{One, Two}
 use Rattle.corr_game.specs.Game.{GameView}
 use Rattle.sequences.specs.Number.{SeqsView, SideView, IsSide, IsSeqsOf, side_of, count_of}
-use Rattle.connected_pairs.specs.Connected.{PairsView, IsPairs, IsListed, IsPair, IsPlaced, IsPlaceAt, is_relevant}
+use Rattle.connected_pairs.specs.Connected.{PairsView, IsPairs, IsListed, IsPlaced, is_relevant}
 
 -- the entry at row a and column b is one of the table's
 pub cell : (a b w h width count : ℕ) → a < h → b < w → width ≡ w → count ≡ h * w → a * width + b < count

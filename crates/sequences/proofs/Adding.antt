@@ -1,5 +1,5 @@
 -- A set's place and moves are added at the ends of both lists, so what was there keeps its number.
-use Rattle.std.proofs.Common.{◌≡◌, ℕ, ◌+◌, ◌<◌, ◌≤◌, List, [], ◌∷◌, ◌++◌, Option, Some, None, zero, suc, length, map, get_or, slice_get, take, sum_by, refl, sym, ap, ◌∙◌, inl, inr, ◌⊎◌, arith}
+use Rattle.std.proofs.Common.{◌≡◌, ℕ, ◌+◌, ◌<◌, ◌≤◌, List, [], ◌∷◌, ◌++◌, Option, Some, None, zero, suc, length, map, slice_get, take, sum_by, refl, sym, ap, ◌∙◌, inl, inr, ◌⊎◌, arith}
 use Rattle.std.specs.List.{range_with_len}
 use Rattle.std.proofs.lemmas.List.{length_push, length-append}
 use Rattle.std.proofs.lemmas.List.FromFn.{map-range_with_len_more, length-map-range_with_len, get_or-map-range_with_len}
@@ -10,7 +10,7 @@ use Rattle.corr_game.specs.declared.nodes.SetInfo.{SetInfo}
 use Rattle.tree_recall.specs.LastMove.{IsMoveBelow}
 use Rattle.tree_recall.proofs.Progress.{slice_get-push}
 use Rattle.sequences.specs.declared.places.Place.{Place}
-use Rattle.sequences.specs.Number.{Ends, IsNumbered, IsNumberingOf, IsTaken, HasNumber, SameActions}
+use Rattle.sequences.specs.Number.{IsNumbered, IsNumberingOf, IsTaken, HasNumber, SameActions}
 use Rattle.sequences.proofs.Few.{actions_of}
 
 pub within : {X : Type 0} (xs : List X) (k : ℕ) → k < length xs → (x : X) × (slice_get xs k ≡ Some x)

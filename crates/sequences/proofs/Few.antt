@@ -1,6 +1,6 @@
 -- A player has fewer actions in all than there are nodes: each set's first node has as many kids as the set has
 -- actions, and all nodes together have one kid fewer than there are nodes, since the subtrees of kids stand in a row.
-use Rattle.std.proofs.Common.{◌≡◌, ℕ, ◌+◌, ◌<◌, ◌≤◌, List, [], ◌∷◌, Option, Some, None, Bool, true, false, cond, zero, suc, length, get_or, slice_get, take, drop, sum_by, refl, sym, subst, ap, ◌∙◌, inl, inr, arith, max}
+use Rattle.std.proofs.Common.{◌≡◌, ℕ, ◌+◌, ◌<◌, ◌≤◌, List, [], ◌∷◌, Option, Some, None, zero, suc, length, get_or, slice_get, take, drop, sum_by, refl, subst, ap, inl, inr, arith, max}
 use Rattle.std.proofs.lemmas.Bool.{cases_lt}
 use Rattle.std.proofs.lemmas.List.{take_all, drop_all}
 use Rattle.std.proofs.lemmas.List.Sums.{sum_by_more, sum_by-cons, sum_by-drop_more}
@@ -10,7 +10,7 @@ use Rattle.corr_game.specs.declared.nodes.Node.TheVariants.{Leaf, Chance, Choice
 use Rattle.corr_game.specs.declared.nodes.SetInfo.{SetInfo}
 use Rattle.corr_game.specs.declared.sides.Side.{Side}
 use Rattle.corr_game.specs.declared.sides.Side.TheVariants.{One, Two}
-use Rattle.corr_game.specs.Node.{kids_of, set_at, same_side}
+use Rattle.corr_game.specs.Node.{kids_of, set_at}
 use Rattle.corr_game.specs.Sets.{AreInOrder, IsMetOrNext, met_with}
 use Rattle.corr_game.specs.Preorder.{InRow, row_end, end_of}
 use Rattle.corr_game.specs.Game.{GameView, IsGame, IsNode, AreBehind, sets_of}

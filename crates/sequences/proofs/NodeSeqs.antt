@@ -1,9 +1,8 @@
 -- One node on, every node still has the number of a sequence: a kid takes its parent's, or one of the set's own.
-use Rattle.std.proofs.Common.{◌≡◌, ℕ, ◌+◌, ◌<◌, ◌≤◌, ◌⊎◌, List, Some, length, get_or, slice_index, slice_get, All, refl, sym, subst, ap, ◌∙◌, inl, inr, arith}
+use Rattle.std.proofs.Common.{◌≡◌, ℕ, ◌+◌, ◌<◌, ◌≤◌, ◌⊎◌, List, Some, length, get_or, slice_index, slice_get, All, refl, inl, inr, arith}
 use Rattle.std.proofs.lemmas.List.{get_or_default}
 use Rattle.std.proofs.lemmas.Option.{slice_get_read}
-use Rattle.corr_game.specs.declared.nodes.Node.{Node}
-use Rattle.corr_game.specs.declared.nodes.Node.TheVariants.{Chance, Choice}
+use Rattle.corr_game.specs.declared.nodes.Node.TheVariants.{Choice}
 use Rattle.corr_game.specs.declared.nodes.SetId.{SetId}
 use Rattle.corr_game.specs.declared.sides.Side.{Side}
 use Rattle.corr_game.specs.Game.{GameView, IsGame, sets_of}

@@ -1,8 +1,6 @@
 -- A triangle of information sets (Farina and Sandholm 2020).
-use Rattle.std.specs.Prelude.{◌≡◌, ℕ, ◌<◌, true, length}
-use Rattle.corr_game.specs.declared.sides.Side.{Side}
-use Rattle.corr_game.specs.declared.sides.Side.TheVariants.{One, Two}
-use Rattle.sequences.specs.Number.{SideView, IsOwn, side_of}
+use Rattle.std.specs.Prelude.{◌≡◌, ℕ, true}
+use Rattle.sequences.specs.Number.{SideView, IsOwn}
 use Rattle.connected_pairs.specs.Connected.{PairsView, are_connected}
 use Rattle.triangle_test.specs.declared.triangles.Quad.{Quad}
 
@@ -18,3 +16,30 @@ pub record IsTriangle (p : PairsView) (q : Quad) : Type 0 where
   pub first : are_connected p q.one_a.0 q.two_a.0 ≡ true
   pub second : are_connected p q.one_b.0 q.two_b.0 ≡ true
   pub across : are_connected p q.one_a.0 q.two_b.0 ≡ true
+
+-- no triangle has this first set of player 1
+abbrev pub NoneFrom : PairsView → ℕ → Type 0
+NoneFrom p one_a = (q : Quad) → q.one_a.0 ≡ one_a → IsTriangle p q → ⊥
+
+-- no triangle has these two sets of player 1
+abbrev pub NoneWith : PairsView → ℕ → ℕ → Type 0
+NoneWith p one_a one_b = (q : Quad) → q.one_a.0 ≡ one_a → q.one_b.0 ≡ one_b → IsTriangle p q → ⊥
+
+-- no triangle has these two sets of player 1 and this first set of player 2
+abbrev pub NoneOver : PairsView → ℕ → ℕ → ℕ → Type 0
+NoneOver p one_a one_b two_a = (q : Quad) → q.one_a.0 ≡ one_a → q.one_b.0 ≡ one_b → q.two_a.0 ≡ two_a → IsTriangle p q → ⊥
+
+-- no triangle has this first set of player 1 and this second set of player 2
+abbrev pub NoneAcross : PairsView → ℕ → ℕ → Type 0
+NoneAcross p one_a two_b = (q : Quad) → q.one_a.0 ≡ one_a → q.two_b.0 ≡ two_b → IsTriangle p q → ⊥
+
+-- these two sets, and the set of player 1 and that of player 2 between them, make a pair of a triangle
+abbrev pub IsPartner : PairsView → ℕ → ℕ → ℕ → Type 0
+IsPartner p one_a two_a two_b = (are_connected p one_a two_a ≡ true) × AreSiblings p.seqs.two two_a two_b
+
+abbrev pub IsMet : PairsView → ℕ → ℕ → ℕ → Type 0
+IsMet p one_a one_b two_b = (are_connected p one_b two_b ≡ true) × AreSiblings p.seqs.one one_a one_b
+
+-- the last set of a triangle whose other three are these
+abbrev pub IsLast : PairsView → ℕ → ℕ → ℕ → ℕ → Type 0
+IsLast p one_a one_b two_a two_b = (are_connected p one_a two_b ≡ true) × (are_connected p one_b two_b ≡ true) × AreSiblings p.seqs.two two_a two_b

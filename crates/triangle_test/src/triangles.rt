@@ -1,7 +1,7 @@
-ghost use Rattle.std.specs.Prelude.{◌≡◌, ◌<◌, ◌↔◌, IfSome, IsTrue, length, true};
+ghost use Rattle.std.specs.Prelude.{◌≡◌, ◌<◌, ◌↔◌, ℕ, IfSome, IsTrue, None, length, false, true};
 ghost use Rattle.sequences.specs.Number.{side_of};
 ghost use Rattle.connected_pairs.specs.Connected.{IsPairsOf, are_connected};
-ghost use Rattle.triangle_test.specs.Triangle.{AreSiblings, IsTriangle};
+ghost use Rattle.triangle_test.specs.Triangle.{AreSiblings, IsLast, IsMet, IsPartner, IsTriangle, NoneAcross, NoneFrom, NoneOver, NoneWith};
 
 use connected_pairs::Pairs;
 use corr_game::{Game, SetId, Side};
@@ -18,7 +18,8 @@ pub struct Quad {
 /// The least triangle, compared by set numbers from the left, or none.
 pub fn triangle(game: &Game, pairs: &Pairs) -> Option<Quad>
     requires { IsPairsOf game.now pairs.now }
-    ensures { IfSome result (λ quad. IsTriangle pairs.now quad) }
+    ensures some { IfSome result (λ quad. IsTriangle pairs.now quad) }
+    ensures none { result ≡ None → (quad : Quad) → IsTriangle pairs.now quad → ⊥ }
 {
     for one_a in 0..set_count(game, pairs, Side::One) {
         let quad = triangle_from(game, pairs, SetId(one_a));
@@ -33,58 +34,66 @@ pub fn triangle(game: &Game, pairs: &Pairs) -> Option<Quad>
 fn triangle_from(game: &Game, pairs: &Pairs, one_a: SetId) -> Option<Quad>
     requires of { IsPairsOf game.now pairs.now }
     requires one_in { one_a.0 < length pairs.now.seqs.one.places }
-    ensures { IfSome result (λ quad. IsTriangle pairs.now quad) }
+    ensures some { IfSome result (λ quad. IsTriangle pairs.now quad) }
+    ensures none { result ≡ None → NoneFrom pairs.now one_a.0 }
 {
     if !begins_one(game, pairs, one_a) {
         return None;
     }
     for one_b in 0..set_count(game, pairs, Side::One) {
-        let one_b = SetId(one_b);
-        if siblings(pairs, Side::One, one_a, one_b) && shares(game, pairs, one_a, one_b) {
-            let quad = triangle_with(game, pairs, one_a, one_b);
-            if quad.is_some() {
-                return quad;
-            }
+        let quad = triangle_with(game, pairs, one_a, SetId(one_b));
+        if quad.is_some() {
+            return quad;
         }
     }
     None
 }
 
-/// The least triangle with these two sets of player 1.
+/// The least triangle with these two sets of player 1. Only sets that share one are searched to the end.
 fn triangle_with(game: &Game, pairs: &Pairs, one_a: SetId, one_b: SetId) -> Option<Quad>
     requires of { IsPairsOf game.now pairs.now }
     requires a_in { one_a.0 < length pairs.now.seqs.one.places }
     requires b_in { one_b.0 < length pairs.now.seqs.one.places }
-    requires apart { AreSiblings pairs.now.seqs.one one_a.0 one_b.0 }
-    ensures { IfSome result (λ quad. IsTriangle pairs.now quad) }
+    ensures some { IfSome result (λ quad. IsTriangle pairs.now quad) }
+    ensures none { result ≡ None → NoneWith pairs.now one_a.0 one_b.0 }
 {
+    if !siblings(pairs, Side::One, one_a, one_b) {
+        return None;
+    }
+    if !shares(game, pairs, one_a, one_b) {
+        return None;
+    }
     for two_a in 0..set_count(game, pairs, Side::Two) {
-        if pairs.connected(one_a, SetId(two_a)) {
-            let quad = triangle_at(game, pairs, one_a, one_b, SetId(two_a));
-            if quad.is_some() {
-                return quad;
-            }
+        let quad = triangle_over(game, pairs, one_a, one_b, SetId(two_a));
+        if quad.is_some() {
+            return quad;
         }
     }
     None
 }
 
-/// The least triangle with these three sets, of which the outer two are connected.
-fn triangle_at(game: &Game, pairs: &Pairs, one_a: SetId, one_b: SetId, two_a: SetId) -> Option<Quad>
+/// The least triangle with these three sets.
+fn triangle_over(
+    game: &Game,
+    pairs: &Pairs,
+    one_a: SetId,
+    one_b: SetId,
+    two_a: SetId,
+) -> Option<Quad>
     requires of { IsPairsOf game.now pairs.now }
     requires a_in { one_a.0 < length pairs.now.seqs.one.places }
     requires b_in { one_b.0 < length pairs.now.seqs.one.places }
     requires two_in { two_a.0 < length pairs.now.seqs.two.places }
     requires apart { AreSiblings pairs.now.seqs.one one_a.0 one_b.0 }
-    requires first { are_connected pairs.now one_a.0 two_a.0 ≡ true }
-    ensures { IfSome result (λ quad. IsTriangle pairs.now quad) }
+    ensures some { IfSome result (λ quad. IsTriangle pairs.now quad) }
+    ensures none { result ≡ None → NoneOver pairs.now one_a.0 one_b.0 two_a.0 }
 {
+    if !pairs.connected(one_a, two_a) {
+        return None;
+    }
     for two_b in 0..set_count(game, pairs, Side::Two) {
         let two_b = SetId(two_b);
-        if pairs.connected(one_a, two_b)
-            && pairs.connected(one_b, two_b)
-            && siblings(pairs, Side::Two, two_a, two_b)
-        {
+        if is_last(pairs, one_a, one_b, two_a, two_b) {
             return Some(Quad {
                 one_a,
                 one_b,
@@ -96,21 +105,43 @@ fn triangle_at(game: &Game, pairs: &Pairs, one_a: SetId, one_b: SetId, two_a: Se
     None
 }
 
+/// Whether a set closes the triangle of three.
+fn is_last(pairs: &Pairs, one_a: SetId, one_b: SetId, two_a: SetId, two_b: SetId) -> bool
+    requires a_in { one_a.0 < length pairs.now.seqs.one.places }
+    requires b_in { one_b.0 < length pairs.now.seqs.one.places }
+    requires two_a_in { two_a.0 < length pairs.now.seqs.two.places }
+    requires two_b_in { two_b.0 < length pairs.now.seqs.two.places }
+    ensures { IsTrue result ↔ IsLast pairs.now one_a.0 one_b.0 two_a.0 two_b.0 }
+{
+    pairs.connected(one_a, two_b)
+        && pairs.connected(one_b, two_b)
+        && siblings(pairs, Side::Two, two_a, two_b)
+}
+
 /// Whether a triangle begins with this set.
 fn begins_one(game: &Game, pairs: &Pairs, one_a: SetId) -> bool
     requires of { IsPairsOf game.now pairs.now }
     requires one_in { one_a.0 < length pairs.now.seqs.one.places }
+    ensures { result ≡ false → NoneFrom pairs.now one_a.0 }
 {
     for two_b in 0..set_count(game, pairs, Side::Two) {
-        let two_b = SetId(two_b);
-        if pairs.connected(one_a, two_b)
-            && has_partner(game, pairs, one_a, two_b)
-            && meets_sibling(game, pairs, one_a, two_b)
-        {
+        if may_cross(game, pairs, one_a, SetId(two_b)) {
             return true;
         }
     }
     false
+}
+
+/// Whether a triangle has this first set of player 1 and this second set of player 2.
+fn may_cross(game: &Game, pairs: &Pairs, one_a: SetId, two_b: SetId) -> bool
+    requires of { IsPairsOf game.now pairs.now }
+    requires one_in { one_a.0 < length pairs.now.seqs.one.places }
+    requires two_in { two_b.0 < length pairs.now.seqs.two.places }
+    ensures { result ≡ false → NoneAcross pairs.now one_a.0 two_b.0 }
+{
+    pairs.connected(one_a, two_b)
+        && has_partner(game, pairs, one_a, two_b)
+        && meets_sibling(game, pairs, one_a, two_b)
 }
 
 /// Whether this set of player 1 is connected to a sibling of this set of player 2.
@@ -118,6 +149,7 @@ fn has_partner(game: &Game, pairs: &Pairs, one_a: SetId, two_b: SetId) -> bool
     requires of { IsPairsOf game.now pairs.now }
     requires one_in { one_a.0 < length pairs.now.seqs.one.places }
     requires two_in { two_b.0 < length pairs.now.seqs.two.places }
+    ensures { result ≡ false → (two_a : ℕ) → IsPartner pairs.now one_a.0 two_a two_b.0 → ⊥ }
 {
     for two_a in 0..set_count(game, pairs, Side::Two) {
         let two_a = SetId(two_a);
@@ -133,6 +165,7 @@ fn meets_sibling(game: &Game, pairs: &Pairs, one_a: SetId, two_b: SetId) -> bool
     requires of { IsPairsOf game.now pairs.now }
     requires one_in { one_a.0 < length pairs.now.seqs.one.places }
     requires two_in { two_b.0 < length pairs.now.seqs.two.places }
+    ensures { result ≡ false → (one_b : ℕ) → IsMet pairs.now one_a.0 one_b two_b.0 → ⊥ }
 {
     for one_b in 0..set_count(game, pairs, Side::One) {
         let one_b = SetId(one_b);
@@ -148,6 +181,7 @@ fn shares(game: &Game, pairs: &Pairs, one_a: SetId, one_b: SetId) -> bool
     requires of { IsPairsOf game.now pairs.now }
     requires a_in { one_a.0 < length pairs.now.seqs.one.places }
     requires b_in { one_b.0 < length pairs.now.seqs.one.places }
+    ensures { result ≡ false → NoneWith pairs.now one_a.0 one_b.0 }
 {
     for two_b in 0..set_count(game, pairs, Side::Two) {
         let two_b = SetId(two_b);

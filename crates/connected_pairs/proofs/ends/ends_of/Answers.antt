@@ -1,5 +1,5 @@
 -- A node's end is that of the row of its kids, whose ends are found.
-use Rattle.std.proofs.Common.{◌≡◌, ◌<◌, ◌-◌, ◌∙◌, length, ap, refl, arith}
+use Rattle.std.proofs.Common.{◌<◌, ◌-◌, ◌∙◌, length, ap, arith}
 use Rattle.std.proofs.lemmas.List.{length-set}
 use Rattle.corr_game.specs.declared.nodes.Node.TheVariants.{Leaf, Chance, Choice}
 use Rattle.connected_pairs.proofs.RowEnds.{one_more}

@@ -1,5 +1,5 @@
 -- A node's set is one of its player's, and the nodes below it end in the list.
-use Rattle.std.proofs.Common.{◌≡◌, ◌<◌, length, arith}
+use Rattle.std.proofs.Common.{◌<◌, length, arith}
 use Rattle.std.proofs.lemmas.List.{get_or_default}
 use Rattle.corr_game.specs.declared.nodes.Node.TheVariants.{Choice}
 use Rattle.corr_game.proofs.Rows.{end_of-at_most}

@@ -1,6 +1,5 @@
 -- Each arm keeps that every node has the number of a sequence.
-use Rattle.std.proofs.Common.{◌≡◌, ◌<◌, ◌≤◌, ◌∙◌, All, get_or, length, sym, refl, arith}
-use Rattle.std.proofs.lemmas.List.{get_or_read}
+use Rattle.std.proofs.Common.{◌<◌, ◌≤◌, ◌∙◌, length, sym, arith}
 use Rattle.corr_game.specs.declared.nodes.Node.TheVariants.{Chance, Choice}
 use Rattle.tree_recall.proofs.Progress.{eq-same_side, same_from_side}
 use Rattle.sequences.proofs.NodeSeqs.{passed, moved, has_place, moves_fit}

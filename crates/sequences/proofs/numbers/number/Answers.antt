@@ -1,5 +1,5 @@
 -- One set more is numbered; the numbers stay below 4096, since a player has fewer actions than the game has nodes.
-use Rattle.std.proofs.Common.{◌≡◌, length, refl, arith}
+use Rattle.std.proofs.Common.{refl, arith}
 use Rattle.corr_game.specs.Game.{sets_of}
 use Rattle.sequences.proofs.Few.{few_actions}
 use Rattle.sequences.proofs.Adding.{taken, part-few, own_low, added, no_part, whole}

@@ -1,7 +1,7 @@
 -- A prefix of a sequence's own part is one of the sequence.
-use Rattle.std.proofs.Common.{◌≡◌, ap, sym}
+use Rattle.std.proofs.Common.{ap, sym}
 use Rattle.sequences.proofs.Holding.{set_in}
-use Rattle.connected_pairs.specs.Connected.{PairsView, IsPrefix, itself, longer}
+use Rattle.connected_pairs.specs.Connected.{PairsView, itself, longer}
 use Rattle.connected_pairs.proofs.pairs.Pairs.+longest_relevant_prefix.Goals as goal
 
 pub returns-in_default-clause-prefix : goal.returns-in_default-clause-prefix

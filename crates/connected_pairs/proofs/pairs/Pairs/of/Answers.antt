@@ -1,5 +1,5 @@
 -- The table is over the sets of the game, and so over the places of its sequences.
-use Rattle.std.proofs.Common.{◌≡◌, ◌∙◌, sym, ap, length}
+use Rattle.std.proofs.Common.{◌∙◌, sym}
 use Rattle.corr_game.specs.declared.sides.Side.TheVariants.{One, Two}
 use Rattle.connected_pairs.proofs.Listing.{whole}
 use Rattle.connected_pairs.proofs.pairs.Pairs.of.Goals as goal

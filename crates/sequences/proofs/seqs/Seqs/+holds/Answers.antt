@@ -1,7 +1,7 @@
 -- By the sequence's last move and its own part.
-use Rattle.std.proofs.Common.{◌≡◌, sym, arith, eq-eqb}
+use Rattle.std.proofs.Common.{sym, arith, eq-eqb}
 use Rattle.sequences.specs.Number.{side_of, last}
-use Rattle.sequences.proofs.Holding.{set_in, own_lower, own_in, holds-none, holds-back, holds-on}
+use Rattle.sequences.proofs.Holding.{set_in, own_lower, holds-none, holds-back, holds-on}
 use Rattle.sequences.proofs.seqs.Seqs.+holds.Goals as goal
 
 pub own-requires : goal.own-requires

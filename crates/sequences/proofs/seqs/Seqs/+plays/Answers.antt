@@ -1,6 +1,6 @@
 -- By the sequence's last move and its own part.
-use Rattle.std.proofs.Common.{◌≡◌, ◌∙◌, sym, refl, arith}
-use Rattle.sequences.specs.Number.{side_of, Plays, nothing}
+use Rattle.std.proofs.Common.{sym, refl, arith}
+use Rattle.sequences.specs.Number.{side_of, nothing}
 use Rattle.sequences.proofs.Holding.{set_in, own_lower, none-empty, plays-on, plays-named, plays-back}
 use Rattle.sequences.proofs.seqs.Seqs.+plays.Goals as goal
 
