@@ -11,21 +11,7 @@ use Rattle.exact_linear.proofs.BlandRuns.{BlandRun}
 use Rattle.exact_linear.proofs.BlandsRule.{no_basis_returns}
 use Rattle.exact_linear.specs.Basis.{IsSameBasis}
 use Rattle.exact_linear.specs.BlandRule.{IsBlandStep}
-use Rattle.exact_linear.specs.Simplex.{IsFeasible}
-use Rattle.exact_linear.specs.Tableau.{IsTableau, IsCostRow}
-
--- The basis, denominator, entries and row of reduced costs that a state stands for.
-pub record Content : Type 0 where
-  pub basis : ℕ → ℕ
-  pub den : ℤ
-  pub matrix : ℕ → ℕ → ℤ
-  pub row : ℕ → ℤ
-
--- A feasible tableau of the start, with its row of reduced costs.
-pub record IsPricedTableau (m n side : ℕ) (columns : ℕ → ℕ → ℤ) (costs : ℕ → ℤ) (c : Content) : Type 0 where
-  pub tableau : IsTableau m n columns c.basis c.den c.matrix
-  pub priced : IsCostRow m n costs c.basis c.den c.matrix c.row
-  pub feasible : IsFeasible m side c.matrix
+use Rattle.exact_linear.specs.Content.{Content, IsPricedTableau}
 
 -- A step of Bland's rule from one content to another.
 pub record BlandMove (m q side : ℕ) (rank : ℕ → ℕ) (before after : Content) : Type 0 where

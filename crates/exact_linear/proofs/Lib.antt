@@ -1,5 +1,6 @@
 pub mod Alike
 pub mod BasisCodes
+pub mod BlandContents
 pub mod BlandEnds
 pub mod BlandMeasure
 pub mod BlandRuns
@@ -7,6 +8,7 @@ pub mod BlandsRule
 pub mod Changes
 pub mod CostRows
 pub mod Determinant
+pub mod ExactQuotients
 pub mod Exactness
 pub mod Feasibility
 pub mod InertRows
@@ -14,7 +16,6 @@ pub mod Mixtures
 pub mod Multipliers
 pub mod OneBasis
 pub mod Optimality
-pub mod OwnTableau
 pub mod Permutations
 pub mod Phase
 pub mod PivotKeeps

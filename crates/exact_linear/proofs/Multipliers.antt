@@ -1,6 +1,7 @@
 -- The artificial columns of a row of reduced costs hold multipliers: each column of the start is the sum of the unit vectors
 -- times its coordinates, and the row of reduced costs keeps that relation.
-use Rattle.std.proofs.Common.{◌≡◌, ℕ, ◌<◌, ℤ, pos, ◌+ℤ◌, ◌-ℤ◌, ◌*ℤ◌, neg_ℤ, sym, ap, ◌∙◌, arith}
+use Rattle.std.proofs.Common.{◌≡◌, ℕ, ◌<◌, ◌≤◌, ℤ, pos, ◌+ℤ◌, ◌-ℤ◌, ◌*ℤ◌, ◌≤ℤ◌, neg_ℤ, sym, ap, subst, ◌∙◌, arith}
+use Rattle.exact_algebra.proofs.Duality.{weak_duality}
 use Rattle.exact_algebra.proofs.RingLaws.{zero-*ℤ}
 use Rattle.exact_algebra.proofs.RingTactic.{ring_laws, linear}
 use Rattle.exact_algebra.proofs.Sums.{sum_to-same, sum_to-nothing, sum_to-difference, sum_to-scale}
@@ -8,6 +9,7 @@ use Rattle.exact_algebra.specs.Sums.{sum_to}
 use Rattle.exact_linear.proofs.Determinant.{unit}
 use Rattle.exact_linear.proofs.Start.{by_units}
 use Rattle.exact_linear.proofs.Tableaus.{cost_relation}
+use Rattle.exact_linear.specs.Simplex.{IsSolution}
 use Rattle.exact_linear.specs.Tableau.{IsTableau, IsCostRow}
 
 module _ {m n : ℕ} {columns : ℕ → ℕ → ℤ} {costs row : ℕ → ℤ} {basis : ℕ → ℕ} {den : ℤ} {matrix : ℕ → ℕ → ℤ} (t : IsTableau m n columns basis den matrix) (z : IsCostRow m n costs basis den matrix row)
@@ -44,3 +46,10 @@ module _ {m n : ℕ} {columns : ℕ → ℕ → ℤ} {costs row : ℕ → ℤ} {
 
       remaining : (a d b c x w : ℤ) → c ≡ neg_ℤ b → x ≡ a +ℤ d *ℤ c → w ≡ d *ℤ b -ℤ a → w ≡ neg_ℤ x
       remaining a d b c x w first second third = let given = simp ring_laws at (rw first at second) in omega (arith, linear)
+
+  -- By weak duality the multipliers bound the payoff of each solution, where the row is 0 or more.
+  pub multipliers_bound : (q side : ℕ) (payoff : ℕ → ℤ) → q ≤ n → ((j : ℕ) → j < q → costs j ≡ neg_ℤ (payoff j)) → ((j : ℕ) → j < q → pos 0 ≤ℤ row j) → (total : ℤ) (x : ℕ → ℤ) → IsSolution m q side columns total x →
+      (den *ℤ sum_to q (λ j. payoff j *ℤ x j)) ≤ℤ (total *ℤ sum_to m (λ k. row (artificial k) *ℤ columns side k))
+  multipliers_bound q side payoff inside negated optimal total x solution =
+      weak_duality m q (λ i j. columns j i) (columns side) payoff x (λ k. row (artificial k)) total den solution.positive solution.makes
+      (λ j l. subst (λ e. pos 0 ≤ℤ e) (sym (certified payoff j (omega arith) (negated j l))) (optimal j l))

@@ -7,7 +7,7 @@
 //!
 //! Contracts may cite `specs/`: `Determinant`, `Tableau` (`IsTableau`, `IsCostRow`, and `IsTableauOf` for a whole matrix over
 //! its start), `Pivot` (`IsPivot`, `numerator`), `Basis` (`IsSameBasis`), `Simplex` (feasible, the ratio rule, solutions, the
-//! basic solution, inert rows) and `BlandRule` (`IsBlandStep`).
+//! basic solution, inert rows), `Content` (`IsPricedTableau`) and `BlandRule` (`IsBlandStep`).
 //!
 //! A layer above imports the lemmas by their file, as `use Rattle.exact_linear.proofs.WholeTableaus.{pivot_exact}`:
 //!
@@ -17,8 +17,9 @@
 //! - `Alike`: a matrix, basis or pivot kept in lists that agrees with a function at each index
 //! - `SimplexSteps`, `InertRows`: a pivot by the ratio rule, or in a row whose right side is 0, keeps the tableau feasible
 //! - `Solutions`, `Optimality`, `Multipliers`, `Phase`, `Rays`: what a tableau shows
-//! - `BlandMeasure`: the measure of a loop by Bland's rule, from the basis, and that it falls. It stands on `BlandEnds` (the end
-//!   of a rule over states of one's own) and on `BlandsRule` (`no_basis_returns`, over a run as families in time)
+//! - `BlandMeasure`: the measure of a loop by Bland's rule, from what its state holds, and that it falls. It stands on `BlandEnds`
+//!   (the end of a rule over states of one's own) and on `BlandsRule` (`no_basis_returns`, over a run as families
+//!   in time)
 //! - `Determinant`, `Mixtures`, `Permutations`: determinants, linear in each vector, and families in another order
 //!
 //! `PivotSamples` shows uses, and no layer above cites it.
