@@ -130,7 +130,7 @@ impl Pairs {
     }
 
     /// Whether a set of this player is connected to one of the other.
-    fn touches(&self, side: Side, own: SetId, set: SetId) -> bool
+    pub fn touches(&self, side: Side, own: SetId, set: SetId) -> bool
         requires own_in { own.0 < length (side_of side self.now.seqs).places }
         requires set_in { set.0 < length (side_of (other side) self.now.seqs).places }
         ensures { result ≡ touches self.now side own.0 set.0 }
