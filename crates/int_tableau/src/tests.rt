@@ -4,6 +4,7 @@ use crate::{Dense, PivotEnd, Place, RowName, Tableau, starts_narrow};
 use corr_game::Side;
 use lp_form::Lp;
 use std::alloc::{AllocError, Global};
+use std::process::Abort;
 
 /// 2^60, so that a product of two such numbers is wide.
 const LARGE: i64 = 1 << 60;
