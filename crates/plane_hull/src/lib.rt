@@ -14,6 +14,3 @@ pub use angles::cmp_angle;
 pub use belts::{BeltFault, belt};
 pub use directions::Dir;
 pub use sides::{Point, SideList, SideRow};
-
-#[cfg(test)]
-mod tests;

@@ -1,0 +1,10 @@
+-- Each piece stands behind the ones before it.
+use Rattle.text_pieces.proofs.Pieces.{Adds-join}
+use Rattle.report_text.specs.RefusalText.{cause_text}
+use Rattle.report_text.proofs.refusals.add_size.Goals as goal
+
+pub returns : goal.returns
+unfolding cause_text
+returns c =
+    let name = rw c.name_of.ensures at c.in_ok-add_bytes-2.ensures.ok in
+    Adds-join (Adds-join (Adds-join (Adds-join (Adds-join c.in_ok-add_bytes.ensures.ok name) c.in_ok-add_bytes-3.ensures.ok) c.in_ok-add_spaced.ensures.ok) c.in_ok-add_bytes-4.ensures.ok) c.in_ok-add_spaced-2.ensures.ok
