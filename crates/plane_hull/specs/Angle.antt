@@ -1,6 +1,6 @@
 -- The order of directions by angle, as sweeps of computational geometry use it: by half plane, and within one half plane
 -- by the sign of the cross product (Preparata and Shamos 1985, chapter 2).
-use Rattle.std.specs.Prelude.{ℕ, ℤ, pos, ◌*ℤ◌}
+use Rattle.std.specs.Prelude.{ℕ, pos, ◌*ℤ◌}
 use Rattle.std.specs.Ordering.{int_cmp, nat_cmp, ordering_then}
 use Rattle.std.specs.declared.cmp.Ordering.{Ordering}
 use Rattle.std.specs.declared.cmp.Ordering.TheVariants.{Less, Equal, Greater}

@@ -1,11 +1,10 @@
 -- The ranges of a report's numbers, in the order of its parts: what its text can hold.
-use Rattle.std.specs.Prelude.{◌≡◌, ℕ, ◌+◌, ◌^◌, ◌<◌, ◌≤◌, suc, List, [], ◌∷◌, length, All, Option, Some, None, slice_get, map, ℤ, pos, ◌≤ℤ◌, unsigned_abs}
+use Rattle.std.specs.Prelude.{ℕ, ◌+◌, ◌^◌, ◌<◌, ◌≤◌, List, [], ◌∷◌, length, All, Option, Some, None, ℤ, pos, ◌≤ℤ◌, unsigned_abs}
 use Rattle.std.specs.Int.{IsGcd}
 use Rattle.corr_game.specs.declared.notions.Notion.{Notion}
 use Rattle.corr_game.specs.declared.notions.Notion.TheVariants.{Efce, Efcce, Nfcce}
 use Rattle.corr_game.specs.declared.plans.Pair.{Pair}
 use Rattle.corr_num.specs.Narrow.{Narrow}
-use Rattle.lp_form.specs.declared.places.Place.{Place}
 use Rattle.plane_hull.specs.declared.sides.SideRow.{SideRow}
 use Rattle.report_form.specs.declared.reports.Corner.{Corner}
 use Rattle.report_form.specs.declared.reports.Block.{Block}

@@ -1,6 +1,6 @@
 -- The texts of a list's items are those of its first items, then that of the next one, then those of the rest: by
 -- induction on the list. So a loop that adds them one by one has added a front of them at each step.
-use Rattle.std.proofs.Common.{◌≡◌, ℕ, ◌+◌, ◌<◌, ◌≤◌, suc, zero, List, [], ◌∷◌, ◌++◌, Some, length, take, drop, slice_get, refl, sym, ap, ◌∙◌, subst, append_assoc, append-nil, Result, Ok, Err, OnOk, OnErr, arith}
+use Rattle.std.proofs.Common.{◌≡◌, ℕ, ◌+◌, suc, zero, List, [], ◌∷◌, ◌++◌, Some, length, take, drop, slice_get, refl, sym, ap, ◌∙◌, subst, append_assoc, append-nil, Result, Ok, Err, OnOk, OnErr, arith}
 use Rattle.text_pieces.specs.Piece.{Adds, AddsFront}
 use Rattle.text_pieces.proofs.Pieces.{Adds-join, AddsFront-behind, AddsFront-cut}
 use Rattle.report_text.specs.Joined.{texts_from}

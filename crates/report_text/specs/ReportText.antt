@@ -1,6 +1,5 @@
 -- The text of a report in the first format.
 use Rattle.std.specs.Prelude.{ℕ, List, ◌++◌, length, codes}
-use Rattle.std.specs.Fmt.{decimal, signed_decimal}
 use Rattle.report_form.specs.declared.reports.Corner.{Corner}
 use Rattle.report_form.specs.declared.reports.Block.{Block}
 use Rattle.report_form.specs.declared.reports.Block.TheVariants.{Found, Empty, TooWide}

@@ -1,5 +1,4 @@
 -- A block with no polygon is one word and its part.
-use Rattle.text_pieces.proofs.Pieces.{Adds-join}
 use Rattle.report_text.specs.ReportText.{block_text}
 use Rattle.report_text.proofs.Items.{after}
 use Rattle.report_text.proofs.blocks.add_block.Goals as goal

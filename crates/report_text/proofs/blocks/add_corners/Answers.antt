@@ -1,8 +1,7 @@
 -- The loop has added the items before this one.
-use Rattle.std.proofs.Common.{◌≡◌, Some, length, slice_get, sym, ap, ◌∙◌, ◌<◌, ℕ, List, Option, None, pos, slice_index_or, subst, arith}
-use Rattle.std.proofs.lemmas.Option.{slice_get-get_or}
+use Rattle.std.proofs.Common.{arith}
 use Rattle.report_text.specs.ReportText.{corner_text}
-use Rattle.report_text.proofs.Items.{Adds-item, AddsFront-item, Adds-all, at_exit}
+use Rattle.report_text.proofs.Items.{Adds-item, Adds-all}
 use Rattle.report_text.proofs.blocks.add_corners.Goals as goal
 
 pub loop-k-preserved : goal.loop-k-preserved

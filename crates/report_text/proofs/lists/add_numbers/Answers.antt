@@ -1,5 +1,5 @@
 -- The loop has added the items before this one.
-use Rattle.std.proofs.Common.{◌≡◌, Some, length, slice_get, sym, ap, ◌∙◌, ◌<◌, ℕ, List, Option, None, pos, slice_index_or, subst, arith}
+use Rattle.std.proofs.Common.{Some, sym, ap, ◌∙◌, pos, arith}
 use Rattle.std.proofs.lemmas.Option.{slice_get-get_or}
 use Rattle.report_text.specs.PartText.{int_text}
 use Rattle.report_text.proofs.Items.{Adds-item, AddsFront-item, Adds-all, at_exit}

@@ -1,9 +1,8 @@
 -- Each piece stands behind the ones before it; where memory runs out the rest is cut off.
 use Rattle.text_pieces.proofs.Pieces.{Adds-join, AddsFront-behind, AddsFront-cut, AddsFront-none}
 use Rattle.std.specs.Prelude.{codes}
-use Rattle.std.specs.Fmt.{decimal, signed_decimal}
-use Rattle.report_text.specs.Joined.{each_text}
-use Rattle.report_text.specs.PartText.{behind_space, quotient_text, int_text, count_text, action_text, side_line, row_text, pair_text, side_text, multipliers_text, place_text}
+use Rattle.std.specs.Fmt.{signed_decimal}
+use Rattle.report_text.specs.PartText.{quotient_text}
 use Rattle.report_text.proofs.Items.{at_exit}
 use Rattle.report_text.proofs.parts.add_quotient.Goals as goal
 
