@@ -1,0 +1,2 @@
+pub mod FewSets
+pub mod Growing

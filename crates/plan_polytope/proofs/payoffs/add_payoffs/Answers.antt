@@ -1,0 +1,33 @@
+-- A leaf's amounts are within 2^28, so n nodes raise no coefficient past n times that.
+use Rattle.std.proofs.Common.{◌*◌, ◌^◌, arith}
+use Rattle.corr_game.specs.declared.nodes.Node.TheVariants.{Leaf}
+use Rattle.corr_game.specs.declared.sides.Side.TheVariants.{One, Two}
+use Rattle.plan_polytope.proofs.Growing.{keeps-on}
+use Rattle.plan_polytope.proofs.payoffs.add_payoffs.Goals as goal
+use Rattle.plan_polytope.proofs.payoffs.add_payoffs.Goals.{in-Leaf+in_ok-add_leaf, in_default}
+
+pub add_leaf-requires-clause-in_one : goal.add_leaf-requires-clause-in_one
+add_leaf-requires-clause-in_one c = omega (arith, (c.requires.whose.sides One).per_node)
+
+pub add_leaf-requires-clause-in_two : goal.add_leaf-requires-clause-in_two
+add_leaf-requires-clause-in_two c = omega (arith, (c.requires.whose.sides Two).per_node)
+
+pub add_leaf-requires-clause-first : goal.add_leaf-requires-clause-first
+add_leaf-requires-clause-first c =
+    (c.node.ensures.rules.each_node c.loop-n.n (Leaf c.in-Leaf.pay) (rw c.in-Leaf.is at c.node.ensures.item)).0
+
+pub add_leaf-requires-clause-second : goal.add_leaf-requires-clause-second
+add_leaf-requires-clause-second c =
+    (c.node.ensures.rules.each_node c.loop-n.n (Leaf c.in-Leaf.pay) (rw c.in-Leaf.is at c.node.ensures.item)).1
+
+pub loop-n-preserved : goal.loop-n-preserved
+loop-n-preserved c =
+    let before = c.loop-n.invariant in
+    elim c.match-node.branch [
+      | in-Leaf+in_ok-add_leaf w ↦
+          rw w.lp-is (
+            λ side k. omega (arith, w.in_ok-add_leaf.ensures.within (c.loop-n.n * 2 ^ 28) before.0 side k),
+            keeps-on c.args.lp.now c.loop-n.lp w.add_leaf.new.lp before.1 w.in_ok-add_leaf.ensures.rows,
+          )
+      | in_default w ↦ rw w.lp-is (λ side k. omega (arith, before.0 side k), before.1)
+    ]

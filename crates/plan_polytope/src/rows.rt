@@ -1,0 +1,87 @@
+ghost use Rattle.std.specs.Prelude.{◌≡◌, ◌<◌, ◌≤◌, ◌+◌, ◌*◌, ◌↔◌, IsTrue, All, IfOk, OnOk, length};
+ghost use Rattle.corr_game.specs.Game.{IsGame, sets_of};
+ghost use Rattle.sequences.specs.Number.{count_of, last_of, side_of};
+ghost use Rattle.connected_pairs.specs.Connected.{IsPairsOf, IsTouched, other};
+ghost use Rattle.plan_polytope.specs.CorrelationRow.{IsRowOf};
+
+use connected_pairs::Pairs;
+use corr_game::{Game, SetId, Side};
+use std::alloc::{AllocError as NoMemory, Global};
+
+/// A correlation row stands at a set of one player and for one sequence of the other.
+#[derive(Clone, Copy, Debug)]
+pub struct Row {
+    pub side: Side,
+    pub set: SetId,
+    pub beside: u32,
+}
+
+/// The rows of all sets, player 1's first, by set and then by the other player's sequence.
+pub fn correlation_rows(alloc: Global, game: &Game, pairs: &Pairs) -> Result<Vec<Row>, NoMemory>
+    requires { IsPairsOf game.now pairs.now }
+    ensures few { IfOk result (λ rows. length rows.items ≤ 4095 * 4096) }
+    ensures each { IfOk result (λ rows. All (IsRowOf game.now pairs.now) rows.items) }
+{
+    let mut rows = Vec::new(alloc);
+    add_rows(game, pairs, Side::One, &mut rows)?;
+    add_rows(game, pairs, Side::Two, &mut rows)?;
+    Ok(rows)
+}
+
+fn add_rows(game: &Game, pairs: &Pairs, side: Side, rows: &mut Vec<Row>) -> Result<(), NoMemory>
+    requires whose { IsPairsOf game.now pairs.now }
+    requires before { All (IsRowOf game.now pairs.now) rows.old.items }
+    ensures few { OnOk result (length rows.new.items ≤ length rows.old.items + length (sets_of side game.now) * 4096) }
+    ensures each { OnOk result (All (IsRowOf game.now pairs.now) rows.new.items) }
+    ensures rules { IsGame game.now }
+{
+    for set in 0..game.sets(side) {
+        add_rows_of_set(game, pairs, (side, SetId(set)), rows)?;
+    }
+    Ok(())
+}
+
+fn add_rows_of_set(
+    game: &Game,
+    pairs: &Pairs,
+    at: (Side, SetId),
+    rows: &mut Vec<Row>,
+) -> Result<(), NoMemory>
+    requires whose { IsPairsOf game.now pairs.now }
+    requires known { at.1.0 < length (sets_of at.0 game.now) }
+    requires before { All (IsRowOf game.now pairs.now) rows.old.items }
+    ensures few { OnOk result (length rows.new.items ≤ length rows.old.items + 4096) }
+    ensures each { OnOk result (All (IsRowOf game.now pairs.now) rows.new.items) }
+{
+    for beside in 0..pairs.seqs().count(other_side(at.0)) {
+        if is_beside(pairs, at, beside) {
+            rows.push(Row {
+                side: at.0,
+                set: at.1,
+                beside,
+            })?;
+        }
+    }
+    Ok(())
+}
+
+/// Whether a sequence of the other player is empty or its last set is connected to this set.
+fn is_beside(pairs: &Pairs, at: (Side, SetId), beside: u32) -> bool
+    requires known { at.1.0 < length (side_of at.0 pairs.now.seqs).places }
+    requires in_range { beside < count_of (side_of (other at.0) pairs.now.seqs) }
+    ensures { IsTrue result ↔ IsTouched pairs.now (other at.0) at.1.0 (last_of (side_of (other at.0) pairs.now.seqs) beside) }
+{
+    match pairs.seqs().last(other_side(at.0), beside) {
+        None => true,
+        Some(taken) => pairs.touches(other_side(at.0), taken.0, at.1),
+    }
+}
+
+pub fn other_side(side: Side) -> Side
+    ensures { result ≡ other side }
+{
+    match side {
+        Side::One => Side::Two,
+        Side::Two => Side::One,
+    }
+}
