@@ -1,4 +1,4 @@
-ghost use Rattle.std.specs.Prelude.{◌≡◌, ◌<◌, ◌++◌, ◌∷◌, [], length, slice_index_or, pos, OnErr, OnOk};
+ghost use Rattle.std.specs.Prelude.{◌≡◌, ◌<◌, ◌++◌, ◌∷◌, [], length, slice_index_or, pos, OnErr, OnOk, IfOk};
 
 use std::alloc::{AllocError as NoMemory, Global};
 use std::marker::Model;
@@ -24,6 +24,15 @@ impl NumList {
         NumList {
             numbers: Vec::new(alloc),
         }
+    }
+
+    /// The empty list, with room for so many numbers.
+    pub fn with_capacity(alloc: Global, count: usize) -> Result<NumList, NoMemory>
+        ensures empty { IfOk result (λ list. list ≡ []) }
+    {
+        Ok(NumList {
+            numbers: Vec::with_capacity(alloc, count)?,
+        })
     }
 
     pub fn push(&mut self, item: i128) -> Result<(), NoMemory>

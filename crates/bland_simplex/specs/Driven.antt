@@ -1,0 +1,11 @@
+-- Artificial columns that can't be driven out of the basis.
+use Rattle.std.specs.Prelude.{◌≡◌, ℕ, ◌<◌, ◌≤◌, ℤ, pos}
+use Rattle.int_tableau.specs.Content.{Content}
+
+-- a row with a basic artificial column is 0 in the program's columns
+abbrev pub IsIdle : Content → ℕ → ℕ → Type 0
+IsIdle t cols row = cols ≤ t.basic row → (col : ℕ) → col < cols → t.entry row col ≡ pos 0
+
+-- each row with a basic artificial column is 0 in the program's columns
+abbrev pub IsDriven : Content → ℕ → ℕ → Type 0
+IsDriven t rows cols = (row : ℕ) → row < rows → IsIdle t cols row

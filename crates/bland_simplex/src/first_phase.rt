@@ -1,0 +1,121 @@
+ghost use Rattle.std.specs.Prelude.{◌≡◌, ℕ, ◌+◌, ◌<◌, ◌≤◌, ◌≤ℤ◌, pos, MatchOption, IfOk, OnOk, length, false};
+ghost use Rattle.int_tableau.specs.Start.{IsStart};
+ghost use Rattle.int_tableau.specs.Content.{IsTableau};
+ghost use Rattle.bland_simplex.specs.Open.{IsOpen, IsOpenFor, IsProgram};
+ghost use Rattle.bland_simplex.specs.Multipliers.{IsStuck, AreMultipliers};
+ghost use Rattle.bland_simplex.specs.Answer.{FoundFor};
+
+use crate::driving::drive_out;
+use crate::leaving::leaving;
+use crate::shapes::{Shape, TURNS};
+use corr_num::difference;
+use int_tableau::{PivotEnd, Tableau};
+use lp_form::{Lp, NumList};
+use std::alloc::Global;
+
+/// What the first phase found.
+#[derive(Debug, Drop)]
+pub enum Found {
+    /// The table is feasible.
+    Start,
+    /// The program has no solution, as these multipliers of its rows show.
+    Empty { multipliers: NumList },
+}
+
+/// The first column of the program, in the fixed order, that is negative in Phase.
+fn entering_program<T: Tableau>(table: &T, shape: Shape) -> Option<u32>
+    requires { IsOpen shape.rows shape.cols (T.content table.now) }
+    ensures { MatchOption result ((col : ℕ) → col < shape.cols → pos 0 ≤ℤ (T.content table.now).entry (shape.rows + 2) col) (λ col. col < shape.cols) }
+{
+    for behind in 0..shape.cols {
+        let col = shape.cols - 1 - behind;
+        if table.entry(shape.rows + 2, col) < 0 {
+            return Some(col);
+        }
+    }
+    None
+}
+
+/// The first artificial column that is negative in Phase.
+fn entering_artificial<T: Tableau>(table: &T, shape: Shape) -> Option<u32>
+    requires { IsOpen shape.rows shape.cols (T.content table.now) }
+    ensures { MatchOption result ((col : ℕ) → shape.cols ≤ col → col < shape.cols + shape.rows → pos 0 ≤ℤ (T.content table.now).entry (shape.rows + 2) col) (λ col. col < shape.cols + shape.rows) }
+{
+    for row in 0..shape.rows {
+        let col = shape.cols + row;
+        if table.entry(shape.rows + 2, col) < 0 {
+            return Some(col);
+        }
+    }
+    None
+}
+
+/// The column that enters in the first phase: artificial ones are offered only where none of the program's may enter.
+fn entering<T: Tableau>(table: &T, shape: Shape) -> Option<u32>
+    requires { IsOpen shape.rows shape.cols (T.content table.now) }
+    ensures { MatchOption result ((col : ℕ) → col < shape.cols + shape.rows → pos 0 ≤ℤ (T.content table.now).entry (shape.rows + 2) col) (λ col. col < shape.cols + shape.rows) }
+{
+    match entering_program(table, shape) {
+        Some(col) => Some(col),
+        None => entering_artificial(table, shape),
+    }
+}
+
+/// Pivots until Phase's right side is 0, or no column may enter. Whether it is 0.
+fn lower_phase<T: Tableau>(table: &mut T, shape: Shape) -> Result<bool, PivotEnd>
+    requires { IsOpen shape.rows shape.cols (T.content table.old) }
+    ensures open { OnOk result (IsOpen shape.rows shape.cols (T.content table.new)) }
+    ensures stuck { IfOk result (λ lowered. lowered ≡ false → IsStuck shape.rows shape.cols (T.content table.new)) }
+{
+    for _ in 0..TURNS {
+        if table.entry(shape.rows + 2, shape.cols + shape.rows) == 0 {
+            return Ok(true);
+        }
+        let Some(col) = entering(table, shape) else {
+            return Ok(false);
+        };
+        let Some(row) = leaving(table, shape, col) else {
+            return Err(PivotEnd::NotBuilt);
+        };
+        table.pivot(row, col)?;
+    }
+    Err(PivotEnd::NotBuilt)
+}
+
+/// The multipliers that show that there is no solution, put into a list with room for them.
+fn multipliers<T: Tableau>(table: &T, shape: Shape, list: NumList) -> Result<NumList, PivotEnd>
+    requires open { IsOpen shape.rows shape.cols (T.content table.now) }
+    requires stuck { IsStuck shape.rows shape.cols (T.content table.now) }
+    requires empty { length list ≡ 0 }
+    ensures { IfOk result (AreMultipliers shape.rows shape.cols (T.content table.now)) }
+{
+    let mut list = list;
+    let denom = table.denom();
+    for row in 0..shape.rows {
+        let phase = table.entry(shape.rows + 2, shape.cols + row);
+        list.push(difference(denom, phase))?;
+    }
+    Ok(list)
+}
+
+/// Leads from the starting tableau to a feasible one, or to multipliers that show that there is none.
+///
+/// Its list is reserved before the first pivot.
+pub fn feasible<T: Tableau>(alloc: Global, lp: &Lp, table: &mut T) -> Result<Found, PivotEnd>
+    requires program { IsProgram lp.now }
+    requires start { IsStart lp.now (T.content table.old) }
+    requires rules { IsTableau (T.content table.old) }
+    ensures open { OnOk result (IsOpenFor lp.now (T.content table.new)) }
+    ensures found { IfOk result (FoundFor lp.now (T.content table.new)) }
+{
+    let shape = Shape::of(lp);
+    let list = NumList::with_capacity(alloc, shape.rows as usize)?;
+    if lower_phase(table, shape)? {
+        drive_out(table, shape)?;
+        Ok(Found::Start)
+    } else {
+        Ok(Found::Empty {
+            multipliers: multipliers(table, shape, list)?,
+        })
+    }
+}

@@ -1,0 +1,19 @@
+//! The simplex method over integer tableaus, in two phases and for two payoff rows.
+//!
+//! `feasible` answers with a feasible tableau or with multipliers which show that there is none, and `best` leads on to a
+//! tableau that is optimal for a direction and, among the optima, for its left turn. It stands on `int_tableau`, whose
+//! `Tableau` is all that it asks, and on `plane_hull` for directions. Columns stand in one fixed order, as Bland's rule
+//! wants it: the program's from the last to the first, then the artificial ones.
+#![tactic(auto)]
+
+mod driving;
+mod first_phase;
+mod leaving;
+mod shapes;
+mod turning;
+
+pub use first_phase::{Found, feasible};
+pub use lp_form::NumList;
+pub use plane_hull::Dir;
+pub use shapes::{Shape, TURNS};
+pub use turning::best;
