@@ -1,0 +1,3 @@
+mod Axes
+mod Divisors
+mod Growing

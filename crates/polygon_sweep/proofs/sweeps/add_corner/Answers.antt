@@ -1,0 +1,8 @@
+-- Another corner keeps all ranges, and is the last.
+use Rattle.std.proofs.Common.{◌≡◌, ◌+◌, ◌∷◌, [], ◌++◌, length, refl, arith}
+use Rattle.std.proofs.lemmas.List.{length_push}
+use Rattle.polygon_sweep.proofs.Growing.{with_corner}
+use Rattle.polygon_sweep.proofs.sweeps.add_corner.Goals as goal
+
+pub returns-clause-kept : goal.returns-clause-kept
+returns-clause-kept c = λ rows cols swept is. with_corner rows cols c.args.swept.now _ c.args.corner c.in_ok-push.ensures.ok refl swept is

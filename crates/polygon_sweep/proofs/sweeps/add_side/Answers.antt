@@ -1,0 +1,7 @@
+-- Another side keeps all ranges.
+use Rattle.std.proofs.Common.{refl}
+use Rattle.polygon_sweep.proofs.Growing.{with_side}
+use Rattle.polygon_sweep.proofs.sweeps.add_side.Goals as goal
+
+pub returns-clause-kept : goal.returns-clause-kept
+returns-clause-kept c = λ rows cols swept is. with_side rows cols c.args.swept.now _ c.args.side refl c.in_ok-push.ensures.ok swept is

@@ -1,0 +1,5 @@
+-- The corner that is added keeps all ranges.
+use Rattle.polygon_sweep.proofs.sweeps.arrive.Goals as goal
+
+pub returns-clause-after : goal.returns-clause-after
+returns-clause-after g c = c.in_ok-last.ensures.kept _ _ c.requires.before c.in_ok-corner_at.ensures

@@ -1,0 +1,10 @@
+-- The last side stands at the present corner, in the direction of an axis.
+use Rattle.polygon_sweep.proofs.Axes.{first_axis}
+use Rattle.polygon_sweep.proofs.Growing.{at_corner}
+use Rattle.polygon_sweep.proofs.sweeps.close.Goals as goal
+
+pub side_at-requires-clause-coprime : goal.side_at-requires-clause-coprime
+side_at-requires-clause-coprime g c = first_axis
+
+pub returns : goal.returns
+returns g c = c.in_ok-add_side.ensures.kept _ _ c.requires.before (at_corner _ _ _ _ c.in_ok-side_at.ensures c.requires.present)

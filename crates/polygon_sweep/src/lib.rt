@@ -1,0 +1,18 @@
+//! The corners and sides of the polygon of payoffs that a program's solutions reach.
+//!
+//! `sweep` turns a direction once round, from the first player's axis counter-clockwise, and takes down each corner that
+//! it meets, with a solution there, and each side, with multipliers that certify it. It stands on `bland_simplex`, which
+//! leads from one direction's optimum to the next one's, and on `plane_hull` for directions and sides. The layer above
+//! uses the ranges of all numbers (`IsSwept`).
+#![tactic(auto)]
+
+mod bearings;
+mod corners;
+mod readings;
+mod sweeps;
+
+pub use corners::{CornerList, Swept, SweptCorner};
+pub use sweeps::sweep;
+
+#[cfg(test)]
+mod tests;

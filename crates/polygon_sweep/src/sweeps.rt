@@ -1,0 +1,155 @@
+ghost use Rattle.std.specs.Prelude.{◌≡◌, ℕ, ◌<◌, OnOk, IfOk, length};
+ghost use Rattle.bland_simplex.specs.Open.{IsOpen, IsOpenFor};
+ghost use Rattle.polygon_sweep.specs.Swept.{IsCoprime, IsCornerOf, IsSideAmong, IsSwept};
+
+use crate::bearings::next_direction;
+use crate::corners::{CornerList, Swept, SweptCorner};
+use crate::readings::{corner_at, reaches, side_at};
+use bland_simplex::{Shape, TURNS, best};
+use int_tableau::{PivotEnd, Tableau};
+use lp_form::Lp;
+use plane_hull::{Dir, SideList, SideRow};
+use std::alloc::{AllocError as NoMemory, Global};
+
+fn is_axis(dir: &Dir) -> bool {
+    dir.a == 0 || dir.b == 0
+}
+
+fn is_full_turn(dir: &Dir) -> bool {
+    dir.a == 1 && dir.b == 0
+}
+
+/// The first corner with its first side, in a tableau that is optimal for (1, 0).
+fn begin<T: Tableau>(alloc: Global, table: &T, shape: Shape) -> Result<Swept, NoMemory>
+    requires open { IsOpen shape.rows shape.cols (T.content table.now) }
+    ensures { IfOk result (IsSwept shape.rows shape.cols) }
+{
+    let mut corners = CornerList::new(alloc);
+    corners.push(corner_at(alloc, table, shape)?)?;
+    let mut sides = SideList::new(alloc);
+    sides.push(side_at(alloc, table, shape, Dir { a: 1, b: 0 }, 0)?)?;
+    Ok(Swept { corners, sides })
+}
+
+fn add_corner(swept: &mut Swept, corner: SweptCorner) -> Result<usize, NoMemory>
+    ensures last { IfOk result (λ k. (k < length swept.new.corners) × (length swept.old.corners < length swept.new.corners)) }
+    ensures kept { OnOk result ((rows cols : ℕ) → IsSwept rows cols swept.old → IsCornerOf cols corner → IsSwept rows cols swept.new) }
+{
+    let last = swept.corners.len();
+    swept.corners.push(corner)?;
+    Ok(last)
+}
+
+fn add_side(swept: &mut Swept, side: SideRow) -> Result<(), NoMemory>
+    ensures corners { OnOk result (swept.new.corners ≡ swept.old.corners) }
+    ensures kept { OnOk result ((rows cols : ℕ) → IsSwept rows cols swept.old → IsSideAmong rows (length swept.old.corners) side → IsSwept rows cols swept.new) }
+{
+    swept.sides.push(side)?;
+    Ok(())
+}
+
+/// The number of the corner that the tableau reaches, which is added unless it is the present one or the first.
+fn arrive<T: Tableau>(
+    alloc: Global,
+    table: &T,
+    shape: Shape,
+    present: usize,
+    swept: &mut Swept,
+) -> Result<usize, NoMemory>
+    requires open { IsOpen shape.rows shape.cols (T.content table.now) }
+    requires present { present < length swept.old.corners }
+    requires before { IsSwept shape.rows shape.cols swept.old }
+    ensures present { OnOk result (present < length swept.new.corners) }
+    ensures reached { IfOk result (λ k. k < length swept.new.corners) }
+    ensures after { OnOk result (IsSwept shape.rows shape.cols swept.new) }
+{
+    if reaches(table, shape, swept.corners.at(present)) {
+        return Ok(present);
+    }
+    if reaches(table, shape, swept.corners.at(0)) {
+        return Ok(0);
+    }
+    let last = add_corner(swept, corner_at(alloc, table, shape)?)?;
+    Ok(last)
+}
+
+/// Turns on to the next direction, where the tableau is optimal for the one before: adds the side at the present corner,
+/// where the direction is an axis or an edge leads on, and the next corner with the same side where one does. The number of
+/// the corner that was reached.
+fn turn<T: Tableau>(
+    alloc: Global,
+    lp: &Lp,
+    table: &mut T,
+    dir: Dir,
+    present: usize,
+    swept: &mut Swept,
+) -> Result<usize, PivotEnd>
+    requires open { IsOpenFor lp.now (T.content table.old) }
+    requires coprime { IsCoprime dir }
+    requires present { present < length swept.old.corners }
+    requires before { IsSwept (length lp.now.rows) lp.now.cols swept.old }
+    ensures open { OnOk result (IsOpenFor lp.now (T.content table.new)) }
+    ensures reached { IfOk result (λ k. k < length swept.new.corners) }
+    ensures after { OnOk result (IsSwept (length lp.now.rows) lp.now.cols swept.new) }
+{
+    let shape = Shape::of(lp);
+    let side = side_at(alloc, table, shape, dir, present)?;
+    best(lp, table, &dir)?;
+    let reached = arrive(alloc, table, shape, present, swept)?;
+    if reached == present && !is_axis(&dir) {
+        return Ok(present);
+    }
+    add_side(swept, side)?;
+    if reached == present {
+        return Ok(present);
+    }
+    add_side(swept, side_at(alloc, table, shape, dir, reached)?)?;
+    Ok(reached)
+}
+
+/// Adds the last side, where an edge leads from the present corner to the first one.
+fn close<T: Tableau>(
+    alloc: Global,
+    table: &T,
+    shape: Shape,
+    present: usize,
+    swept: Swept,
+) -> Result<Swept, NoMemory>
+    requires open { IsOpen shape.rows shape.cols (T.content table.now) }
+    requires present { present < length swept.corners }
+    requires before { IsSwept shape.rows shape.cols swept }
+    ensures { IfOk result (IsSwept shape.rows shape.cols) }
+{
+    if present == 0 {
+        return Ok(swept);
+    }
+    let mut swept = swept;
+    add_side(
+        &mut swept,
+        side_at(alloc, table, shape, Dir { a: 1, b: 0 }, present)?,
+    )?;
+    Ok(swept)
+}
+
+/// The corners and sides of the polygon of payoffs, from a table that `feasible` left with `Start`.
+///
+/// Corners are in scaled payoffs; the sides stand in the order of the belt: all axes, and each edge's direction at both of
+/// its ends.
+pub fn sweep<T: Tableau>(alloc: Global, lp: &Lp, table: &mut T) -> Result<Swept, PivotEnd>
+    requires { IsOpenFor lp.now (T.content table.old) }
+    ensures swept { IfOk result (IsSwept (length lp.now.rows) lp.now.cols) }
+{
+    let shape = Shape::of(lp);
+    let mut dir = Dir { a: 1, b: 0 };
+    best(lp, table, &dir)?;
+    let mut swept = begin(alloc, table, shape)?;
+    let mut present = 0;
+    for _ in 0..TURNS {
+        dir = next_direction(table, shape, &dir);
+        if is_full_turn(&dir) {
+            return Ok(close(alloc, table, shape, present, swept)?);
+        }
+        present = turn(alloc, lp, table, dir, present, &mut swept)?;
+    }
+    Err(PivotEnd::NotBuilt)
+}
