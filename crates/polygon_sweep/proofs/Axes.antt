@@ -1,6 +1,5 @@
 -- The axes are directions of coprime numbers.
-use Rattle.std.proofs.Common.{ℕ}
-use Rattle.std.specs.Int.{IsGcd, ◌∣◌}
+use Rattle.std.specs.Int.{IsGcd}
 use Rattle.std.proofs.Math.Nat.{one-dvd}
 
 pub first_axis : IsGcd 1 0 1

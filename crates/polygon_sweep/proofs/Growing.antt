@@ -1,7 +1,7 @@
 -- A polygon that grows by a corner or a side keeps its ranges.
 use Rattle.std.proofs.Common.{◌≡◌, ℕ, ◌+◌, ◌<◌, ◌≤◌, List, [], ◌∷◌, ◌++◌, length, All, arith}
 use Rattle.std.proofs.lemmas.List.{length_push}
-use Rattle.std.proofs.lemmas.List.Elements.{All-push, All-map}
+use Rattle.std.proofs.lemmas.List.Elements.{All-push}
 use Rattle.plane_hull.specs.declared.sides.SideRow.{SideRow}
 use Rattle.polygon_sweep.specs.declared.corners.SweptCorner.{SweptCorner}
 use Rattle.polygon_sweep.specs.declared.corners.Swept.{Swept}

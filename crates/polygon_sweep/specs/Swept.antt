@@ -1,5 +1,5 @@
 -- The ranges of a polygon's corners and sides, as a tableau's narrow entries give them.
-use Rattle.std.specs.Prelude.{◌≡◌, ℕ, ◌<◌, ◌≤◌, List, length, All, ℤ, pos, ◌<ℤ◌, unsigned_abs}
+use Rattle.std.specs.Prelude.{◌≡◌, ℕ, ◌<◌, ◌≤◌, length, All, pos, ◌<ℤ◌, unsigned_abs}
 use Rattle.std.specs.Int.{IsGcd}
 use Rattle.corr_num.specs.Narrow.{Narrow}
 use Rattle.plane_hull.specs.declared.directions.Dir.{Dir}

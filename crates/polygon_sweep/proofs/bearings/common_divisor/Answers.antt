@@ -1,5 +1,5 @@
 -- The divisor is no larger than the larger of two narrow numbers, so that the cast keeps it, and it isn't 0.
-use Rattle.std.proofs.Common.{◌≡◌, ◌<◌, ◌^◌, unsigned_abs, pos, arith}
+use Rattle.std.proofs.Common.{◌<◌, ◌^◌, unsigned_abs, arith}
 use Rattle.std.specs.Int.{w128, IsGcd}
 use Rattle.std.proofs.lemmas.Int.{ints, to_z-of_z, to_z_pos}
 use Rattle.polygon_sweep.proofs.Divisors.{gcd_below}

@@ -1,6 +1,5 @@
 -- Another corner keeps all ranges, and is the last.
-use Rattle.std.proofs.Common.{◌≡◌, ◌+◌, ◌∷◌, [], ◌++◌, length, refl, arith}
-use Rattle.std.proofs.lemmas.List.{length_push}
+use Rattle.std.proofs.Common.{refl}
 use Rattle.polygon_sweep.proofs.Growing.{with_corner}
 use Rattle.polygon_sweep.proofs.sweeps.add_corner.Goals as goal
 

@@ -1,6 +1,4 @@
 -- The sides that are added stand at corners that are there.
-use Rattle.std.proofs.Common.{length}
-use Rattle.polygon_sweep.specs.Swept.{IsSwept}
 use Rattle.polygon_sweep.proofs.Growing.{at_corner}
 use Rattle.polygon_sweep.proofs.sweeps.turn.Goals as goal
 
