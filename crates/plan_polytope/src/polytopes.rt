@@ -1,9 +1,9 @@
-ghost use Rattle.std.specs.Prelude.{◌≡◌, ◌<◌, ◌≤◌, ◌+◌, ◌*◌, ◌^◌, ℕ, pos, length, slice_set, replicate, All, IfOk, OnOk};
+ghost use Rattle.std.specs.Prelude.{◌≡◌, ◌<◌, ◌≤◌, ◌+◌, ◌*◌, ◌^◌, ℕ, pos, length, slice_set, replicate, unsigned_abs, All, IfOk, OnOk};
 ghost use Rattle.corr_game.specs.Game.{sets_of};
 ghost use Rattle.sequences.specs.Number.{count_of, side_of};
 ghost use Rattle.lp_form.specs.Program.{right_of};
 ghost use Rattle.connected_pairs.specs.Connected.{IsPairs, IsPairsOf, other};
-ghost use Rattle.plan_polytope.specs.Bounds.{IsWithin};
+ghost use Rattle.plan_polytope.specs.Bounds.{AreUnits, IsWithin};
 ghost use Rattle.plan_polytope.specs.CorrelationRow.{IsRowOf};
 
 use crate::payoffs::add_payoffs;
@@ -22,6 +22,7 @@ pub fn polytope(alloc: Global, game: &Game, pairs: &Pairs) -> Result<Lp, NoMemor
     ensures total { IfOk result (λ lp. right_of lp 0 ≡ pos 1) }
     ensures other_rights { IfOk result (λ lp. (r : ℕ) → right_of lp (r + 1) ≡ pos 0) }
     ensures amounts { IfOk result (λ lp. IsWithin (2 ^ 40) lp) }
+    ensures units { IfOk result (λ lp. AreUnits lp) }
 {
     let columns = pairs.len();
     let rows = correlation_rows(alloc, game, pairs)?;
@@ -41,6 +42,8 @@ fn fill_rows(game: &Game, pairs: &Pairs, rows: &[Row], lp: &mut Lp) -> Result<()
     requires as_many { length lp.old.rows ≡ length rows.now + 1 }
     requires few { length rows.now ≤ 4095 * 4096 }
     requires each { All (IsRowOf game.now pairs.now) rows.now }
+    requires before { AreUnits lp.old }
+    ensures units { OnOk result (AreUnits lp.new) }
     ensures rows_alone { OnOk result (lp.new ≡ record lp.old { rows = lp.new.rows }) }
     ensures count { OnOk result (length lp.new.rows ≡ length lp.old.rows) }
 {
@@ -57,6 +60,8 @@ fn fill_row(game: &Game, pairs: &Pairs, row: &Row, at: u32, lp: &mut Lp) -> Resu
     requires columns { length pairs.now.pairs ≤ lp.old.cols }
     requires known { IsRowOf game.now pairs.now row.now }
     requires in_rows { at < length lp.old.rows }
+    requires before { AreUnits lp.old }
+    ensures units { OnOk result (AreUnits lp.new) }
     ensures rows_alone { OnOk result (lp.new ≡ record lp.old { rows = lp.new.rows }) }
     ensures count { OnOk result (length lp.new.rows ≡ length lp.old.rows) }
 {
@@ -66,7 +71,8 @@ fn fill_row(game: &Game, pairs: &Pairs, row: &Row, at: u32, lp: &mut Lp) -> Resu
         place(pairs, (at, row.side), (seq, row.beside), 1, lp)?;
     }
     let own = seqs.own(row.side, row.set);
-    place(pairs, (at, row.side), (own, row.beside), -1, lp)
+    place(pairs, (at, row.side), (own, row.beside), -1, lp)?;
+    Ok(())
 }
 
 /// Puts a coefficient into a row at a pair of sequences, that of the row's player first. Only a relevant pair has a
@@ -82,6 +88,9 @@ fn place(
     requires columns { length pairs.now.pairs ≤ lp.old.cols }
     requires own_in { at.0 < count_of (side_of row.1 pairs.now.seqs) }
     requires beside_in { at.1 < count_of (side_of (other row.1) pairs.now.seqs) }
+    requires small { unsigned_abs value ≤ 1 }
+    requires before { AreUnits lp.old }
+    ensures units { OnOk result (AreUnits lp.new) }
     ensures rows_alone { OnOk result (lp.new ≡ record lp.old { rows = lp.new.rows }) }
     ensures count { OnOk result (length lp.new.rows ≡ length lp.old.rows) }
 {
@@ -89,8 +98,9 @@ fn place(
         Side::One => pairs.index_of(at.0, at.1),
         Side::Two => pairs.index_of(at.1, at.0),
     };
-    match index {
-        None => Ok(()),
-        Some(col) => lp.set(row.0, col, value),
-    }
+    let Some(col) = index else {
+        return Ok(());
+    };
+    lp.set(row.0, col, value)?;
+    Ok(())
 }

@@ -1,6 +1,7 @@
--- The rows alone change, and there are as many.
+-- The rows alone change, there are as many, and each coefficient is a unit.
 use Rattle.std.proofs.Common.{◌≡◌, length}
+use Rattle.plan_polytope.specs.Bounds.{AreUnits}
 use Rattle.plan_polytope.proofs.polytopes.fill_row.Given as goal
 
 abbrev pub invariant-loop-action : goal.invariant-loop-action
-invariant-loop-action l = (l.lp ≡ record l.initial.lp { rows = l.lp.rows }) × (length l.lp.rows ≡ length l.initial.lp.rows)
+invariant-loop-action l = (l.lp ≡ record l.initial.lp { rows = l.lp.rows }) × (length l.lp.rows ≡ length l.initial.lp.rows) × AreUnits l.lp
