@@ -1,0 +1,49 @@
+ghost use Rattle.std.specs.Prelude.{◌≡◌, ◌≤◌, ℕ, pos, length, slice_get, slice_index_or, All, IfOk, Some};
+ghost use Rattle.corr_num.specs.Narrow.{Narrow};
+ghost use Rattle.connected_pairs.specs.Connected.{IsPairsOf};
+ghost use Rattle.plan_decompose.specs.Entry.{IsEntry, SumsTo};
+
+use crate::ends::DecomposeEnd;
+use crate::entries::take_entry;
+use connected_pairs::Pairs;
+use corr_game::{Game, PairList};
+use lp_form::NumList;
+use std::alloc::{AllocError as NoMemory, Global};
+
+/// Weighted pairs of plans whose weights sum, over those that play a relevant pair, to its value.
+pub fn decompose(
+    alloc: Global,
+    game: &Game,
+    pairs: &Pairs,
+    values: NumList,
+) -> Result<PairList, DecomposeEnd>
+    requires whose { IsPairsOf game.now pairs.now }
+    requires per_pair { length values ≡ length pairs.now.pairs }
+    requires narrow { All Narrow values }
+    ensures entries { IfOk result (λ list. All (IsEntry game.now) list) }
+    ensures sums { IfOk result
+        (λ list. (k : ℕ) (pair : ℕ × ℕ) → slice_get pairs.now.pairs k ≡ Some pair → SumsTo pairs.now.seqs pair list (slice_index_or values k (pos 0))) }
+    ensures some { IfOk result (λ list. 1 ≤ length list) }
+    ensures few { IfOk result (λ list. length list ≤ length pairs.now.pairs) }
+{
+    let mut rest = copied(alloc, &values)?;
+    let mut list = PairList::new(alloc);
+    for _ in 0..pairs.len() {
+        let entry = take_entry(alloc, game, pairs, &mut rest)?;
+        list.push(entry)?;
+        if rest.iter().all(|value| *value == 0) {
+            return Ok(list);
+        }
+    }
+    Err(DecomposeEnd::NotBuilt)
+}
+
+fn copied(alloc: Global, values: &NumList) -> Result<Vec<i128>, NoMemory>
+    ensures { IfOk result (λ copy. copy.items ≡ values.now) }
+{
+    let mut copy = Vec::with_capacity(alloc, values.len())?;
+    for k in 0..values.len() {
+        copy.push(*values.at(k))?;
+    }
+    Ok(copy)
+}
