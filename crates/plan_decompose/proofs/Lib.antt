@@ -1,3 +1,4 @@
 pub mod Choosing
 pub mod Ranges
+pub mod Sums
 pub mod Taking

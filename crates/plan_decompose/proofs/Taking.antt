@@ -18,9 +18,9 @@ less_narrow w old new p one low e = rw e (omega (arith, ints))
 pub left_narrow : (p : PairsView) (one two : List (Option ℕ)) (w : ℤ) (old new : List ℤ) → AreTakenOff p one two w old new → length old ≡ length p.pairs → length new ≡ length old → All Narrow old → pos 1 ≤ℤ w
     → ((k : ℕ) (pair : ℕ × ℕ) → slice_get p.pairs k ≡ Some pair → PlayBoth p.seqs one two pair → w ≤ℤ slice_index_or old k (pos 0)) → All Narrow new
 left_narrow p one two w old new off count same narrow positive least = All-from_get_or Narrow new (pos 0) (λ k low.
-  let pair = within p.pairs k (omega arith) in
-  let before = narrow k (pos 0) (omega arith) in
-  elim (off k pair.0 pair.1) [
-    | inl played ↦ less_narrow w (slice_index_or old k (pos 0)) (slice_index_or new k (pos 0)) before positive (least k pair.0 pair.1 played.0) played.1
-    | inr other ↦ rw other.1 before
-  ])
+    let pair = within p.pairs k (omega arith) in
+    let before = narrow k (pos 0) (omega arith) in
+    elim (off k pair.0 pair.1) [
+      | inl played ↦ less_narrow w (slice_index_or old k (pos 0)) (slice_index_or new k (pos 0)) before positive (least k pair.0 pair.1 played.0) played.1
+      | inr other ↦ rw other.1 before
+    ])

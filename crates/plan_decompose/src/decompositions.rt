@@ -1,4 +1,4 @@
-ghost use Rattle.std.specs.Prelude.{◌≡◌, ◌≤◌, ℕ, pos, length, slice_get, slice_index_or, All, IfOk, Some};
+ghost use Rattle.std.specs.Prelude.{◌≡◌, ◌≤◌, ◌↔◌, ℕ, pos, length, slice_get, slice_index_or, All, IfOk, IsTrue, Some};
 ghost use Rattle.corr_num.specs.Narrow.{Narrow};
 ghost use Rattle.connected_pairs.specs.Connected.{IsPairsOf};
 ghost use Rattle.plan_decompose.specs.Entry.{IsEntry, SumsTo};
@@ -31,11 +31,17 @@ pub fn decompose(
     for _ in 0..pairs.len() {
         let entry = take_entry(alloc, game, pairs, &mut rest)?;
         list.push(entry)?;
-        if rest.iter().all(|value| *value == 0) {
+        if nothing_left(&rest) {
             return Ok(list);
         }
     }
     Err(DecomposeEnd::NotBuilt)
+}
+
+fn nothing_left(rest: &[i128]) -> bool
+    ensures { IsTrue result ↔ All (λ value. value ≡ pos 0) rest.now }
+{
+    rest.iter().all(|value| *value == 0)
 }
 
 fn copied(alloc: Global, values: &NumList) -> Result<Vec<i128>, NoMemory>

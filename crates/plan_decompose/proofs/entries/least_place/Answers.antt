@@ -23,17 +23,17 @@ loop-k-preserved c =
             ];
           })
       | else-values-k w ↦ rw w.least-is (record {
-          in_range = before.in_range;
-          least = λ k pair h e b. elim (cases_eq k c.loop-k.k) [
-            | inl same ↦ elim w.else-values-k.branch [
-              | else-values-k-via-then-values-k+else-both_play v ↦
-                  let played : v.both_play.result ≡ true = (v.both_play.ensures pair (rw same at e)).1 b in
-                  absurd (cc)
-              | else-values-k-via-else-values-k v ↦
-                  let more = rw (here, there) at v.if-values-k.false in
-                  rw same (omega (arith, ints, more))
-            ]
-            | inr apart ↦ before.least k pair (omega arith) e b
-          ];
-        })
+        in_range = before.in_range;
+        least = λ k pair h e b. elim (cases_eq k c.loop-k.k) [
+          | inl same ↦ elim w.else-values-k.branch [
+            | else-values-k-via-then-values-k+else-both_play v ↦
+                let played : v.both_play.result ≡ true = (v.both_play.ensures pair (rw same at e)).1 b in
+                absurd (cc)
+            | else-values-k-via-else-values-k v ↦
+                let more = rw (here, there) at v.if-values-k.false in
+                rw same (omega (arith, ints, more))
+          ]
+          | inr apart ↦ before.least k pair (omega arith) e b
+        ];
+      })
     ]

@@ -7,5 +7,5 @@ abbrev pub invariant-loop-k : goal.invariant-loop-k
 invariant-loop-k l = record {
   in_range : l.least < length l.values;
   least : (k : ℕ) (pair : ℕ × ℕ) → k < l.k → slice_get l.pairs.pairs k ≡ Some pair → PlayBoth l.pairs.seqs l.one l.two pair
-      → slice_index_or l.values l.least (pos 0) ≤ℤ slice_index_or l.values k (pos 0)
+      → slice_index_or l.values l.least (pos 0) ≤ℤ slice_index_or l.values k (pos 0);
 }

@@ -30,10 +30,10 @@ loop-k-preserved c =
             left = λ k h. let apart : k ≢ at = omega arith in get_or-set_other c.loop-k.values at k _ (pos 0) apart ∙ before.left k (omega arith);
           })
       | else-both_play w ↦ rw w.values-is (record {
-          done = λ k pair h e. elim (cases_eq k at) [
-            | inl same ↦ rw same (inr (λ b. let played : c.both_play.result ≡ true = (c.both_play.ensures pair (rw same at e)).1 b in cc, old))
-            | inr apart ↦ before.done k pair (omega arith) e
-          ];
-          left = λ k h. before.left k (omega arith);
-        })
+        done = λ k pair h e. elim (cases_eq k at) [
+          | inl same ↦ rw same (inr (λ b. let played : c.both_play.result ≡ true = (c.both_play.ensures pair (rw same at e)).1 b in cc, old))
+          | inr apart ↦ before.done k pair (omega arith) e
+        ];
+        left = λ k h. before.left k (omega arith);
+      })
     ]

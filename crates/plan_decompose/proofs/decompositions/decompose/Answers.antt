@@ -1,0 +1,48 @@
+-- An entry more is one of the game's, and it keeps what entries and the rest make together.
+use Rattle.std.proofs.Common.{◌≡◌, ◌+◌, ℕ, ◌∙◌, ℤ, pos, List, length, slice_index_or, ap, sym, rules, arith}
+use Rattle.std.proofs.lemmas.List.{length_push}
+use Rattle.std.proofs.lemmas.List.Elements.{All-nil, All-push}
+use Rattle.std.proofs.lemmas.Option.{slice_get_within}
+use Rattle.corr_game.specs.declared.plans.Pair.{Pair}
+use Rattle.plan_decompose.specs.Entry.{IsEntry}
+use Rattle.plan_decompose.proofs.Sums.{none_shared, one_more_shared, whole, written_back}
+use Rattle.plan_decompose.proofs.decompositions.decompose.Goals as goal
+
+pub loop-init : goal.loop-init
+loop-init c = rw (c.new-list.ensures.empty, c.in_ok-rest.ensures) (record {
+  count = search rules;
+  entries = All-nil (IsEntry c.args.game.now);
+  as_many = c.requires.per_pair;
+  narrow = c.requires.narrow;
+  shared = none_shared c.args.pairs.now c.args.values;
+})
+
+pub loop-preserved : goal.loop-preserved
+loop-preserved c =
+    let before = c.loop.invariant in
+    let p = c.args.pairs.now in
+    let entry = c.in_ok-entry.entry in
+    let same : length c.take_entry.new.values ≡ length c.loop.rest.items = omega (arith, c.take_entry.auto.values, ap length c.deref_mut.ensures.value) in
+    let back = written_back c.loop.rest.items c.take_entry.new.values c.loop.rest.len same (omega (arith, c.loop.rest.ok.0)) in
+    rw (back, c.in_ok-push.ensures.ok) (record {
+      count = length_push c.loop.list entry ∙ ap (λ (n : ℕ). n + 1) before.count;
+      entries = All-push (IsEntry c.args.game.now) c.loop.list entry before.entries c.in_ok-entry.ensures.entry;
+      as_many = same ∙ before.as_many;
+      narrow = c.in_ok-entry.ensures.narrow;
+      shared = one_more_shared p c.loop.list entry c.loop.rest.items c.take_entry.new.values c.args.values before.shared (rw c.deref_mut.ensures.value at c.in_ok-entry.ensures.taken);
+    })
+
+pub returns-then-nothing_left-clause-entries : goal.returns-then-nothing_left-clause-entries
+returns-then-nothing_left-clause-entries c =
+    rw c.in_ok-push.ensures.ok (All-push (IsEntry c.args.game.now) c.loop.list c.in_ok-entry.entry c.loop.invariant.entries c.in_ok-entry.ensures.entry)
+
+pub returns-then-nothing_left-clause-sums : goal.returns-then-nothing_left-clause-sums
+returns-then-nothing_left-clause-sums c = λ k pair e.
+    let p = c.args.pairs.now in
+    let entry = c.in_ok-entry.entry in
+    let left = c.take_entry.new.values in
+    let same : length left ≡ length c.loop.rest.items = omega (arith, c.take_entry.auto.values, ap length c.deref_mut.ensures.value) in
+    let back = written_back c.loop.rest.items left c.loop.rest.len same (omega (arith, c.loop.rest.ok.0)) in
+    let none = rw (c.deref.ensures.value, back) at (c.nothing_left.ensures.0 c.if-nothing_left.true) in
+    let shared = one_more_shared p c.loop.list entry c.loop.rest.items left c.args.values c.loop.invariant.shared (rw c.deref_mut.ensures.value at c.in_ok-entry.ensures.taken) in
+    rw c.in_ok-push.ensures.ok (whole p.seqs pair _ (slice_index_or left k (pos 0)) _ (shared k pair e) (none k (pos 0) (omega (arith, same, c.loop.invariant.as_many, slice_get_within p.pairs k pair e))))
