@@ -1,6 +1,6 @@
 -- An entry more at the end adds its weight to the sum at each pair of sequences that it plays. So what the entries sum to
 -- and what is left of a value make the value that was there at first.
-use Rattle.std.proofs.Common.{◌≡◌, ℕ, ◌+ℤ◌, ◌-ℤ◌, ℤ, pos, List, [], ◌∷◌, ◌++◌, Some, length, All, slice_get, slice_index_or, take, drop, subst, ◌∙◌, inl, inr, arith}
+use Rattle.std.proofs.Common.{◌≡◌, ℕ, ◌+ℤ◌, ◌-ℤ◌, ℤ, pos, List, [], ◌∷◌, ◌++◌, Some, length, slice_get, slice_index_or, take, drop, subst, ◌∙◌, inl, inr, arith}
 use Rattle.std.proofs.lemmas.Int.{ints}
 use Rattle.std.proofs.lemmas.List.{take-append-le, take_all}
 use Rattle.corr_game.specs.declared.plans.Pair.{Pair}

@@ -1,5 +1,5 @@
 -- What is left of a narrow value, less a weight that is narrow and at most the value, is printed as it is and is narrow.
-use Rattle.std.proofs.Common.{◌≡◌, ℕ, ◌<◌, ◌≤ℤ◌, ◌-ℤ◌, ℤ, pos, List, Option, Some, length, All, slice_get, slice_index_or, to_z, of_z, inl, inr, arith}
+use Rattle.std.proofs.Common.{◌≡◌, ℕ, ◌≤ℤ◌, ◌-ℤ◌, ℤ, pos, List, Option, Some, length, All, slice_get, slice_index_or, to_z, of_z, inl, inr, arith}
 use Rattle.std.specs.Int.{w128}
 use Rattle.std.proofs.lemmas.Int.{ints}
 use Rattle.std.proofs.lemmas.List.Elements.{All-from_get_or}

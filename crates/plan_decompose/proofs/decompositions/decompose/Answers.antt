@@ -1,9 +1,8 @@
 -- An entry more is one of the game's, and it keeps what entries and the rest make together.
-use Rattle.std.proofs.Common.{◌≡◌, ◌+◌, ℕ, ◌∙◌, ℤ, pos, List, length, slice_index_or, ap, sym, rules, arith}
+use Rattle.std.proofs.Common.{◌≡◌, ◌+◌, ℕ, ◌∙◌, pos, length, slice_index_or, ap, rules, arith}
 use Rattle.std.proofs.lemmas.List.{length_push}
 use Rattle.std.proofs.lemmas.List.Elements.{All-nil, All-push}
 use Rattle.std.proofs.lemmas.Option.{slice_get_within}
-use Rattle.corr_game.specs.declared.plans.Pair.{Pair}
 use Rattle.plan_decompose.specs.Entry.{IsEntry}
 use Rattle.plan_decompose.proofs.Sums.{none_shared, one_more_shared, whole, written_back}
 use Rattle.plan_decompose.proofs.decompositions.decompose.Goals as goal

@@ -1,5 +1,4 @@
 -- A relevant pair is of sequences that are there.
-use Rattle.std.proofs.Common.{◌≡◌, ◌∙◌, Some, sym, ap}
 use Rattle.plan_decompose.proofs.entries.both_play.Goals as goal
 
 pub plays-requires-clause-known : goal.plays-requires-clause-known

@@ -1,5 +1,5 @@
 -- The place moves only to a lower value, and it moves where a lower value's pair is played.
-use Rattle.std.proofs.Common.{◌≡◌, ℕ, ◌<◌, ◌≤ℤ◌, ◌<ℤ◌, pos, length, true, inl, inr, slice_get, slice_index_or, Some, arith}
+use Rattle.std.proofs.Common.{◌≡◌, ◌<◌, pos, length, true, inl, inr, slice_index_or, arith}
 use Rattle.std.proofs.lemmas.Bool.{cases_eq}
 use Rattle.std.proofs.lemmas.Int.{ints}
 use Rattle.corr_num.proofs.PrintedTerms.{narrow_returned}
