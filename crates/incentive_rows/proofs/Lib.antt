@@ -1,0 +1,6 @@
+pub mod Counts
+pub mod Following
+pub mod Growing
+pub mod Placing
+pub mod Parts
+pub mod Sums

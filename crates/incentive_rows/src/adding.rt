@@ -1,0 +1,98 @@
+ghost use Rattle.std.specs.Prelude.{◌≡◌, ◌≢◌, ◌⊎◌, ℕ, ◌<◌, ◌≤◌, ◌+◌, ◌^◌, ◌+ℤ◌, length, unsigned_abs, IfSome, OnOk};
+ghost use Rattle.lp_form.specs.Program.{coefficient};
+ghost use Rattle.sequences.specs.Number.{count_of, side_of};
+ghost use Rattle.connected_pairs.specs.Connected.{IsPairs, other};
+ghost use Rattle.incentive_rows.specs.Bounds.{Grows, IsWithin};
+
+use connected_pairs::Pairs;
+use corr_game::Side;
+use lp_form::Lp;
+use std::alloc::AllocError as NoMemory;
+
+/// Adds to the coefficient at this place.
+pub fn add(lp: &mut Lp, row: u32, col: u32, value: i64) -> Result<(), NoMemory>
+    requires in_rows { row < length lp.old.rows }
+    requires in_columns { col < lp.old.cols }
+    requires room { IsWithin (2 ^ 43) lp.old }
+    requires small { unsigned_abs value ≤ 2 ^ 28 }
+    ensures placed { OnOk result (coefficient lp.new row col ≡ coefficient lp.old row col +ℤ value) }
+    ensures others { OnOk result ((r k : ℕ) → (r ≢ row) ⊎ (k ≢ col) → coefficient lp.new r k ≡ coefficient lp.old r k) }
+    ensures grows { OnOk result ((by : ℕ) → unsigned_abs value ≤ by → Grows by lp.old lp.new) }
+{
+    let total = raised(lp.coef(row, col), value);
+    lp.set(row, col, total)
+}
+
+pub fn add_1(lp: &mut Lp, row: u32, col: u32) -> Result<(), NoMemory>
+    requires in_rows { row < length lp.old.rows }
+    requires in_columns { col < lp.old.cols }
+    requires room { IsWithin (2 ^ 43) lp.old }
+    ensures grows { OnOk result (Grows 1 lp.old lp.new) }
+{
+    add(lp, row, col, 1)
+}
+
+pub fn take_1(lp: &mut Lp, row: u32, col: u32) -> Result<(), NoMemory>
+    requires in_rows { row < length lp.old.rows }
+    requires in_columns { col < lp.old.cols }
+    requires room { IsWithin (2 ^ 43) lp.old }
+    ensures grows { OnOk result (Grows 1 lp.old lp.new) }
+{
+    add(lp, row, col, -1)
+}
+
+fn raised(total: i64, value: i64) -> i64
+    requires before { unsigned_abs total ≤ 2 ^ 43 }
+    requires small { unsigned_abs value ≤ 2 ^ 28 }
+    ensures sum { result ≡ total +ℤ value }
+    ensures bound { unsigned_abs result ≤ unsigned_abs total + unsigned_abs value }
+{
+    total + value
+}
+
+/// Adds to a row at a pair of sequences, the player's own first. Only a relevant pair has a column.
+pub fn add_at_pair(
+    pairs: &Pairs,
+    at: (Side, u32),
+    pair: (u32, u32),
+    value: i64,
+    lp: &mut Lp,
+) -> Result<(), NoMemory>
+    requires rules { IsPairs pairs.now }
+    requires in_rows { at.1 < length lp.old.rows }
+    requires columns { length pairs.now.pairs ≤ lp.old.cols }
+    requires own_in { pair.0 < count_of (side_of at.0 pairs.now.seqs) }
+    requires beside_in { pair.1 < count_of (side_of (other at.0) pairs.now.seqs) }
+    requires room { IsWithin (2 ^ 43) lp.old }
+    requires small { unsigned_abs value ≤ 2 ^ 28 }
+    ensures grows { OnOk result (Grows (2 ^ 28) lp.old lp.new) }
+{
+    match pair_column(pairs, at.0, pair.0, pair.1) {
+        None => Ok(()),
+        Some(col) => {
+            add(lp, at.1, col, value)?;
+            Ok(())
+        }
+    }
+}
+
+fn pair_column(pairs: &Pairs, side: Side, own: u32, beside: u32) -> Option<u32>
+    requires own_in { own < count_of (side_of side pairs.now.seqs) }
+    requires beside_in { beside < count_of (side_of (other side) pairs.now.seqs) }
+    requires rules { IsPairs pairs.now }
+    ensures { IfSome result (λ col. col < length pairs.now.pairs) }
+{
+    match side {
+        Side::One => pairs.index_of(own, beside),
+        Side::Two => pairs.index_of(beside, own),
+    }
+}
+
+pub fn other_side(side: Side) -> Side
+    ensures { result ≡ other side }
+{
+    match side {
+        Side::One => Side::Two,
+        Side::Two => Side::One,
+    }
+}
