@@ -19,6 +19,7 @@ pub fn polytope(alloc: Global, game: &Game, pairs: &Pairs) -> Result<Lp, NoMemor
     requires { IsPairsOf game.now pairs.now }
     ensures columns { IfOk result (λ lp. lp.cols ≡ length pairs.now.pairs) }
     ensures few_rows { IfOk result (λ lp. length lp.rows + 4095 ≤ 2 ^ 24) }
+    ensures a_row { IfOk result (λ lp. 0 < length lp.rows) }
     ensures total { IfOk result (λ lp. right_of lp 0 ≡ pos 1) }
     ensures other_rights { IfOk result (λ lp. (r : ℕ) → right_of lp (r + 1) ≡ pos 0) }
     ensures amounts { IfOk result (λ lp. IsWithin (2 ^ 40) lp) }

@@ -1,0 +1,4 @@
+mod Bounded
+mod Joined
+mod Marking
+mod Weighing

@@ -1,0 +1,15 @@
+-- The decomposition's entries are in range, and they are no more than the relevant pairs.
+use Rattle.std.proofs.Common.{◌≤◌, ◌≤ℤ◌, pos, length, arith}
+use Rattle.std.proofs.lemmas.Int.{ints}
+use Rattle.corr_num.proofs.PrintedTerms.{narrow_returned}
+use Rattle.notion_solve.proofs.Weighing.{entry_pairs}
+use Rattle.notion_solve.proofs.corners.corner_of.Goals as goal
+
+pub returns : goal.returns
+returns c =
+    let corner = c.requires.corner.1 in
+    let above = corner.positive in
+    let at_most : length c.in_ok-pairs.pairs ≤ 65535 = omega (arith, c.in_ok-pairs.ensures.few, c.requires.few) in
+    let positive : pos 1 ≤ℤ c.args.corner.now.den = omega (arith, ints) in
+    rw (narrow_returned c.args.corner.now.den corner.den)
+    ((positive, corner.den), c.in_ok-pairs.ensures.some, at_most, entry_pairs c.args.game.now c.in_ok-pairs.pairs c.point_of-point.ensures.rules c.in_ok-pairs.ensures.entries)

@@ -1,0 +1,13 @@
+-- The correlation rows are of units and the incentive rows of amounts, so that no sum of a column is wide.
+use Rattle.std.proofs.Common.{arith}
+use Rattle.notion_solve.proofs.Bounded.{starts_narrow}
+use Rattle.notion_solve.proofs.Joined.{is_program}
+use Rattle.notion_solve.proofs.programs.program.Goals as goal
+
+pub returns-clause-program : goal.returns-clause-program
+returns-clause-program c =
+    rw c.in_ok-lp.ensures.both (is_program c.in_ok-base.base c.in_ok-more.more c.in_ok-base.ensures.a_row c.in_ok-base.ensures.total c.in_ok-base.ensures.other_rights c.in_ok-more.ensures.rights)
+
+pub returns-clause-narrow : goal.returns-clause-narrow
+returns-clause-narrow c =
+    rw c.in_ok-lp.ensures.both (starts_narrow c.in_ok-base.base c.in_ok-more.more (omega (arith, c.in_ok-base.ensures.few_rows)) c.in_ok-more.ensures.few_rows c.in_ok-base.ensures.units c.in_ok-more.ensures.bounded c.in_ok-base.ensures.amounts c.in_ok-base.ensures.total c.in_ok-base.ensures.other_rights c.in_ok-more.ensures.rights)

@@ -1,0 +1,74 @@
+ghost use Rattle.std.specs.Prelude.{◌≡◌, ◌≤◌, ℕ, length, IfOk};
+ghost use Rattle.connected_pairs.specs.Connected.{IsPairsOf};
+ghost use Rattle.incentive_rows.specs.Size.{HasSize};
+ghost use Rattle.bland_simplex.specs.Open.{IsProgram};
+ghost use Rattle.int_tableau.specs.Content.{IsTableau};
+ghost use Rattle.int_tableau.specs.Start.{IsStart};
+ghost use Rattle.polygon_sweep.specs.Swept.{IsSwept};
+ghost use Rattle.notion_solve.specs.Outcome.{IsOutcome};
+ghost use Rattle.report_form.specs.Ranges.{IsBlock};
+
+use crate::corners::corners_of;
+use crate::ends::SolveEnd;
+use crate::programs::program;
+use crate::wide::too_wide;
+use bland_simplex::{Found, feasible};
+use connected_pairs::Pairs;
+use corr_game::{Game, Notion};
+use int_tableau::{Dense, PivotEnd, Tableau};
+use lp_form::{Lp, NumList};
+use polygon_sweep::{Swept, sweep};
+use report_form::Block;
+use std::alloc::Global;
+
+/// What a run of pivots came to: a polygon, or multipliers that show that there is none.
+#[derive(Drop)]
+pub enum Outcome {
+    Polygon(Swept),
+    Empty(NumList),
+}
+
+/// Both phases and the turn round the polygon.
+fn explore<T: Tableau>(alloc: Global, lp: &Lp, table: &mut T) -> Result<Outcome, PivotEnd>
+    requires program { IsProgram lp.now }
+    requires start { IsStart lp.now (T.content table.old) }
+    requires rules { IsTableau (T.content table.old) }
+    ensures { IfOk result (IsOutcome (length lp.now.rows) lp.now.cols) }
+{
+    match feasible(alloc, lp, table)? {
+        Found::Start => Ok(Outcome::Polygon(sweep(alloc, lp, table)?)),
+        Found::Empty { multipliers } => Ok(Outcome::Empty(multipliers)),
+    }
+}
+
+/// The block of a notion for a game without a triangle: the polygon of its equilibria's payoffs, or that it has none, or
+/// the basis whose tableau is too wide.
+pub fn solve(alloc: Global, game: &Game, pairs: &Pairs, notion: Notion) -> Result<Block, SolveEnd>
+    requires whose { IsPairsOf game.now pairs.now }
+    requires size { (rows columns : ℕ) × HasSize game.now pairs.now notion rows columns × (rows ≤ 2048) × (columns ≤ 8192) }
+    ensures ranges { IfOk result IsBlock }
+{
+    let lp = program(alloc, game, pairs, notion)?;
+    let mut table = Dense::start(alloc, &lp)?;
+    match explore(alloc, &lp, &mut table) {
+        Ok(Outcome::Polygon(swept)) => found(alloc, game, pairs, swept),
+        Ok(Outcome::Empty(multipliers)) => Ok(Block::Empty { multipliers }),
+        Err(PivotEnd::Wide(place)) => Ok(too_wide(alloc, &table, place)?),
+        Err(PivotEnd::NoMemory) => Err(SolveEnd::NoMemory),
+        Err(PivotEnd::NotBuilt) => Err(SolveEnd::NotBuilt),
+    }
+}
+
+/// The block of a polygon.
+fn found(alloc: Global, game: &Game, pairs: &Pairs, swept: Swept) -> Result<Block, SolveEnd>
+    requires whose { IsPairsOf game.now pairs.now }
+    requires few { length pairs.now.pairs ≤ 8192 }
+    requires swept { (rows cols : ℕ) × IsSwept rows cols swept × (length pairs.now.pairs ≤ cols) }
+    ensures { IfOk result IsBlock }
+{
+    let Swept { corners, sides } = swept;
+    Ok(Block::Found {
+        corners: corners_of(alloc, game, pairs, &corners)?,
+        sides,
+    })
+}

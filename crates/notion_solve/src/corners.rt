@@ -1,0 +1,105 @@
+// Corners with the pairs of plans that reach them.
+ghost use Rattle.std.specs.Prelude.{◌≡◌, ℕ, ◌^◌, ◌<◌, ◌≤◌, pos, ◌<ℤ◌, unsigned_abs, length, All, IfOk};
+ghost use Rattle.connected_pairs.specs.Connected.{IsPairsOf};
+ghost use Rattle.corr_game.specs.Game.{IsGame};
+ghost use Rattle.corr_num.specs.Narrow.{Narrow};
+ghost use Rattle.polygon_sweep.specs.Swept.{IsCornerOf};
+ghost use Rattle.report_form.specs.Ranges.{IsCorner, IsScale};
+
+use crate::ends::SolveEnd;
+use connected_pairs::Pairs;
+use corr_game::{Game, Side};
+use corr_num::{Frac, product};
+use lp_form::NumList;
+use plan_decompose::decompose;
+use plane_hull::Point;
+use polygon_sweep::{CornerList, SweptCorner};
+use report_form::{Corner, Corners};
+use std::alloc::{AllocError as NoMemory, Global};
+
+/// The first numbers of a list.
+fn front(alloc: Global, list: &NumList, count: u32) -> Result<NumList, NoMemory>
+    requires long { count ≤ length list.now }
+    requires narrow { All Narrow list.now }
+    ensures count { IfOk result (λ part. length part ≡ count) }
+    ensures narrow { IfOk result (λ part. All Narrow part) }
+{
+    let mut part = NumList::with_capacity(alloc, count as usize)?;
+    for k in 0..count {
+        part.push(*list.at(k as usize))?;
+    }
+    Ok(part)
+}
+
+/// A payoff's denominator in the file's units.
+fn scaled(den: i128, scale: i64) -> i128
+    requires positive { pos 0 <ℤ den }
+    requires narrow { Narrow den }
+    requires scale { IsScale scale }
+    ensures positive { pos 0 <ℤ result }
+    ensures bound { unsigned_abs result < 2 ^ 126 }
+{
+    product(den, i128::from(scale))
+}
+
+/// A player's scale, which is in its range by the rules of a game.
+fn scale_of(game: &Game, side: Side) -> i64
+    ensures scale { IsScale result }
+    ensures rules { IsGame game.now }
+{
+    // `len` hands on the rules of the game, `scale` doesn't.
+    let _ = game.len();
+    game.scale(side)
+}
+
+/// The file's payoffs at a corner.
+fn point_of(game: &Game, corner: &SweptCorner) -> Point
+    requires { (cols : ℕ) × IsCornerOf cols corner.now }
+    ensures rules { IsGame game.now }
+{
+    Point {
+        one: Frac::of(corner.one, scaled(corner.den, scale_of(game, Side::One))),
+        two: Frac::of(corner.two, scaled(corner.den, scale_of(game, Side::Two))),
+    }
+}
+
+fn corner_of(
+    alloc: Global,
+    game: &Game,
+    pairs: &Pairs,
+    corner: &SweptCorner,
+) -> Result<Corner, SolveEnd>
+    requires whose { IsPairsOf game.now pairs.now }
+    requires few { length pairs.now.pairs ≤ 8192 }
+    requires corner { (cols : ℕ) × IsCornerOf cols corner.now × (length pairs.now.pairs ≤ cols) }
+    ensures { IfOk result IsCorner }
+{
+    let point = point_of(game, corner);
+    let values = front(alloc, &corner.values, pairs.len())?;
+    let pairs = decompose(alloc, game, pairs, values)?;
+    Ok(Corner {
+        point,
+        total: corner.den,
+        pairs,
+    })
+}
+
+/// Each corner's payoffs and a distribution on pairs of plans that has the corner's values as column sums.
+pub fn corners_of(
+    alloc: Global,
+    game: &Game,
+    pairs: &Pairs,
+    swept: &CornerList,
+) -> Result<Corners, SolveEnd>
+    requires whose { IsPairsOf game.now pairs.now }
+    requires few { length pairs.now.pairs ≤ 8192 }
+    requires swept { (cols : ℕ) × All (IsCornerOf cols) swept.now × (length pairs.now.pairs ≤ cols) }
+    ensures count { IfOk result (λ corners. length corners ≡ length swept.now) }
+    ensures each { IfOk result (λ corners. All IsCorner corners) }
+{
+    let mut corners = Corners::new(alloc);
+    for k in 0..swept.len() {
+        corners.push(corner_of(alloc, game, pairs, swept.at(k))?)?;
+    }
+    Ok(corners)
+}

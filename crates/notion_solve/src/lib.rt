@@ -1,0 +1,15 @@
+//! The block of a report for one notion of correlated equilibrium.
+//!
+//! `solve` makes the notion's program, leads a tableau through both phases of the simplex method and once round the
+//! polygon of payoffs, and hands each corner's solution to the decomposition into pairs of plans. It stands on all crates
+//! of the solver. The layer above uses that every number of the block is in a report's ranges.
+#![tactic(auto)]
+
+mod blocks;
+mod corners;
+mod ends;
+mod programs;
+mod wide;
+
+pub use blocks::solve;
+pub use ends::SolveEnd;

@@ -1,0 +1,27 @@
+ghost use Rattle.std.specs.Prelude.{◌≡◌, ◌≤◌, ℕ, length, IfOk};
+ghost use Rattle.connected_pairs.specs.Connected.{IsPairsOf};
+ghost use Rattle.incentive_rows.specs.Size.{HasSize};
+ghost use Rattle.bland_simplex.specs.Open.{IsProgram};
+ghost use Rattle.int_tableau.specs.Start.{StartsNarrow};
+
+use connected_pairs::Pairs;
+use corr_game::{Game, Notion};
+use incentive_rows::incentives;
+use lp_form::Lp;
+use plan_polytope::polytope;
+use std::alloc::{AllocError as NoMemory, Global};
+
+/// The program of a notion: the correlation rows, then the incentive rows.
+pub fn program(alloc: Global, game: &Game, pairs: &Pairs, notion: Notion) -> Result<Lp, NoMemory>
+    requires whose { IsPairsOf game.now pairs.now }
+    requires size { (rows columns : ℕ) × HasSize game.now pairs.now notion rows columns × (rows ≤ 2048) × (columns ≤ 8192) }
+    ensures program { IfOk result (λ lp. IsProgram lp) }
+    ensures narrow { IfOk result (λ lp. StartsNarrow lp) }
+    ensures pair_columns { IfOk result (λ lp. length pairs.now.pairs ≤ lp.cols) }
+    ensures few_columns { IfOk result (λ lp. lp.cols ≤ 8192) }
+{
+    let base = polytope(alloc, game, pairs)?;
+    let more = incentives(alloc, game, pairs, notion)?;
+    let lp = Lp::join(base, more)?;
+    Ok(lp)
+}

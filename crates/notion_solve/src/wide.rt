@@ -1,0 +1,45 @@
+// The block of a tableau that is too wide.
+ghost use Rattle.std.specs.Prelude.{◌≡◌, ◌^◌, ◌<◌, length, IfOk};
+ghost use Rattle.report_form.specs.Ranges.{AscendFrom, IsBlock};
+
+use int_tableau::Tableau;
+use lp_form::Place;
+use report_form::{Block, ColumnList};
+use std::alloc::{AllocError as NoMemory, Global};
+
+/// Whether each column is basic.
+fn basic_columns<T: Tableau>(alloc: Global, table: &T) -> Result<Vec<bool>, NoMemory>
+    ensures count { IfOk result (λ basic. length basic.items ≡ (T.content table.now).cols) }
+    ensures few { IfOk result (λ basic. length basic.items < 2 ^ 32) }
+{
+    let mut basic: Vec<bool> = vec![in alloc; false; table.cols() as usize]?;
+    for row in 0..table.rows() - 3 {
+        basic[table.basic(row) as usize] = true;
+    }
+    Ok(basic)
+}
+
+/// The columns that are marked, in ascending order.
+fn marked(alloc: Global, marks: &[bool]) -> Result<ColumnList, NoMemory>
+    requires { length marks.now < 2 ^ 32 }
+    ensures { IfOk result (λ columns. AscendFrom 0 columns) }
+{
+    let mut columns = ColumnList::new(alloc);
+    for (col, mark) in marks.iter().enumerate() {
+        if *mark {
+            columns.push(col as u32)?;
+        }
+    }
+    Ok(columns)
+}
+
+/// The block that names the tableau's basis, in ascending order, and a place at which it is wide.
+pub fn too_wide<T: Tableau>(alloc: Global, table: &T, place: Place) -> Result<Block, NoMemory>
+    ensures { IfOk result IsBlock }
+{
+    let basic = basic_columns(alloc, table)?;
+    Ok(Block::TooWide {
+        basis: marked(alloc, basic.as_slice())?,
+        place,
+    })
+}
