@@ -1,5 +1,7 @@
 -- One node on: its kids' entries become the move above them, and a set that is met for the first time is the next
 -- one. So every last move kept is at a set met before.
+use Rattle.std.specs.Result.{IsErrAnd, IfErr}
+use Rattle.std.proofs.Common.{Result, Ok, Err}
 use Rattle.std.proofs.Common.{◌≡◌, ℕ, ◌+◌, ◌<◌, ◌≤◌, List, [], ◌∷◌, ◌++◌, Option, Some, None, zero, suc, length, map, get_or, slice_get, drop, All, refl, sym, subst, ap, ◌∙◌, inl, inr, ◌⊎◌, arith, max, true, false}
 use Rattle.std.proofs.lemmas.Bool.{cases_lt}
 use Rattle.std.proofs.lemmas.List.{drop_all, length_push, map_push, length-map, length-replicate}
@@ -181,3 +183,8 @@ recall_of g one two count_one count_two earlier_one earlier_two = record {
       [ One ↦ length-map one last_of ∙ count_one | Two ↦ length-map two last_of ∙ count_two ];
   earlier = λ side. elim side as (λ s. AreEarlier (sets_of s g) (moves_of s (record { one = map last_of one; two = map last_of two }))) [ One ↦ earlier_one | Two ↦ earlier_two ];
 }
+
+-- an error that was handed on keeps what was said of it
+pub error_named : {A E : Type 0} (r : Result A E) (x : E) (P : E → Type 0) → IsErrAnd r (λ e. e ≡ x) → P x → IfErr r P
+error_named (Ok a) x P is h = absurd is
+error_named (Err e) x P is h = rw is h

@@ -1,1 +1,2 @@
 pub mod LastMove
+pub mod Forgetting

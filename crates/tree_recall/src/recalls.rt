@@ -1,6 +1,7 @@
-ghost use Rattle.std.specs.Prelude.{◌≡◌, ◌<◌, ◌≤◌, ◌++◌, ◌∷◌, [], ℕ, length, map, slice_get, slice_index_or, Some, All, IfOk, Option};
+ghost use Rattle.std.specs.Prelude.{◌≡◌, ◌<◌, ◌≤◌, ◌++◌, ◌∷◌, [], ℕ, length, map, slice_get, slice_index_or, Some, All, IfErr, IfOk, Option};
 ghost use Rattle.corr_game.specs.declared.nodes.SetId.{SetId};
-ghost use Rattle.corr_game.specs.Game.{sets_of};
+ghost use Rattle.corr_game.specs.Game.{GameView, sets_of};
+ghost use Rattle.tree_recall.specs.Forgetting.{NamesSet};
 ghost use Rattle.tree_recall.specs.LastMove.{IsRecallOf, AreEarlier, IsEither, IsKeptOrMove, moves_of};
 
 use corr_game::{Game, Node, NodeList, SetId, Side};
@@ -26,6 +27,7 @@ pub struct Recalled {
 
 impl Model for Recalled {
     ghost use Rattle.std.specs.Prelude.{map};
+    ghost use Rattle.tree_recall.specs.Forgetting.{NamesSet};
     ghost use Rattle.tree_recall.specs.LastMove.{RecalledView};
 
     ghost Value = { RecalledView };
@@ -89,7 +91,8 @@ impl Recalled {
 
 /// The last own moves, or the first pair of nodes at which a player forgets.
 pub fn recall(alloc: Global, game: &Game) -> Result<Recalled, RecallRefusal>
-    ensures { IfOk result (λ recalled. IsRecallOf game.now recalled) }
+    ensures recalled { IfOk result (λ recalled. IsRecallOf game.now recalled) }
+    ensures named { IfErr result (NamesSet game.now) }
 {
     let one = side_recall(alloc, game, Side::One);
     let two = side_recall(alloc, game, Side::Two);
@@ -101,7 +104,9 @@ pub fn recall(alloc: Global, game: &Game) -> Result<Recalled, RecallRefusal>
 }
 
 /// Of two refusals the one whose second node comes first.
-fn earlier(one: RecallRefusal, two: RecallRefusal) -> RecallRefusal {
+fn earlier(one: RecallRefusal, two: RecallRefusal) -> RecallRefusal
+    ensures { (g : GameView) → NamesSet g one → NamesSet g two → NamesSet g result }
+{
     match (&one, &two) {
         (RecallRefusal::Forgets { second: a, .. }, RecallRefusal::Forgets { second: b, .. })
             if *b < *a => two,
@@ -114,6 +119,7 @@ fn side_recall(alloc: Global, game: &Game, side: Side) -> Result<Vec<Met>, Recal
     ensures count { IfOk result (λ met. length met.items ≡ length (sets_of side game.now)) }
     ensures earlier { IfOk result
         (λ met. AreEarlier (sets_of side game.now) (map (λ m. m.last) met.items)) }
+    ensures named { IfErr result (NamesSet game.now) }
 {
     let mut above: Vec<Option<Move>> = vec![in alloc; None; game.len() as usize]?;
     let mut met = Vec::new(alloc);
@@ -130,7 +136,7 @@ fn side_recall(alloc: Global, game: &Game, side: Side) -> Result<Vec<Met>, Recal
                 if *mover == side {
                     meet(
                         &mut met,
-                        side,
+                        *mover,
                         *set,
                         Met {
                             first: n,
@@ -153,6 +159,7 @@ fn meet(met: &mut Vec<Met>, side: Side, set: SetId, node: Met) -> Result<(), Rec
     ensures known { IfOk result (λ _. set.0 < length met.old.items → met.new.items ≡ met.old.items) }
     ensures added { IfOk result
         (λ _. set.0 ≡ length met.old.items → met.new.items ≡ met.old.items ++ node ∷ []) }
+    ensures named { IfErr result (λ refusal. (g : GameView) → set.0 < length (sets_of side g) → NamesSet g refusal) }
 {
     let Some(known) = met.get(set.0 as usize) else {
         met.push(node)?;

@@ -2,7 +2,8 @@
 use Rattle.std.proofs.Common.{ℕ, ◌<◌, None, ap, ◌∙◌, length, sym, refl, inl, rules, arith}
 use lib.ListN.{replicate}
 use Rattle.corr_game.specs.declared.nodes.Node.TheVariants.{Leaf, Chance, Choice}
-use Rattle.tree_recall.proofs.Progress.{eq-same_side, same_from_side, other_set, met_or_next, passed_on, moved_on, few_kids, started, all_met}
+use Rattle.tree_recall.proofs.Progress.{eq-same_side, same_from_side, other_set, met_or_next, passed_on, moved_on, few_kids, started, all_met, error_named}
+use Rattle.tree_recall.specs.Forgetting.{NamesSet}
 use Rattle.tree_recall.proofs.recalls.side_recall.Goals as goal
 use Rattle.tree_recall.proofs.recalls.side_recall.Goals.{in-Leaf, in-Chance, in-Choice+then-eq+in_ok-meet-in-Choice, in-Choice+else-eq}
 
@@ -65,3 +66,9 @@ returns-clause-count c = all_met c.args.side c.args.game.now c.loop-n.n c.loop-n
 
 pub returns-clause-earlier : goal.returns-clause-earlier
 returns-clause-earlier c = c.loop-n.invariant.earlier
+
+pub returns-in_err-meet-in-Choice-clause-named : goal.returns-in_err-meet-in-Choice-clause-named
+returns-in_err-meet-in-Choice-clause-named c =
+    let node = rw c.in-Choice.is at c.node.ensures.item in
+    let here = c.node.ensures.rules.each_node c.loop-n.n (Choice c.in-Choice.mover c.in-Choice.set c.in-Choice.kids) node in
+    error_named _ _ (NamesSet c.args.game.now) c.from_residual-in_err-meet-in-Choice.ensures.1 (c.in_err-meet-in-Choice.ensures.named c.args.game.now here.0)
