@@ -1,5 +1,5 @@
 -- One node more: the last that is listed goes before those that have their kids.
-use Rattle.std.proofs.Common.{◌≡◌, ℕ, ◌+◌, ◌<◌, ◌≤◌, get_or, List, [], ◌∷◌, ◌++◌, length, take, drop, reverse, refl, ap, sym, ◌∙◌, arith}
+use Rattle.std.proofs.Common.{◌≡◌, ℕ, ◌+◌, ◌<◌, ◌≤◌, get_or, List, [], ◌∷◌, ◌++◌, length, take, drop, reverse, ap, sym, ◌∙◌, arith}
 use Rattle.std.proofs.lemmas.List.{length_push, length-drop, reverse-append, drop_more, drop_all, take_more, take_all, nil_from_length}
 use Rattle.efg_reader.specs.declared.events.Bare.{Bare}
 use Rattle.efg_reader.specs.declared.raw_game.RawNode.{RawNode}

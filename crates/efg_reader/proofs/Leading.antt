@@ -1,5 +1,5 @@
 -- One token more leads one state on.
-use Rattle.std.proofs.Common.{◌≡◌, ℕ, List, [], ◌∷◌, ◌++◌, Some, refl, sym, subst, ◌∙◌}
+use Rattle.std.proofs.Common.{◌≡◌, ℕ, List, [], ◌∷◌, ◌++◌, Some, refl}
 use Rattle.efg_token.specs.Front.{front, found}
 use Rattle.efg_token.specs.Lexeme.{Lexeme}
 use Rattle.efg_reader.specs.declared.state.State.{State}

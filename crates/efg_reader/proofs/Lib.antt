@@ -1,6 +1,11 @@
 pub mod Again
 pub mod Assembling
+pub mod Depth
 pub mod Found
 pub mod Leading
 pub mod OneTree
+pub mod PartLists
+pub mod PlaceBelow
+pub mod SetsSoFar
+pub mod WholeGame
 pub mod Widths

@@ -5,13 +5,11 @@ use Rattle.std.specs.Prelude.{All}
 use Rattle.std.proofs.lemmas.List.Elements.{All-nil, All-head, All-tail, All-cons, All-take, All-drop, All-weaker}
 use Rattle.std.proofs.lemmas.Bool.{eqb-true}
 use Rattle.std.proofs.lemmas.Option.{same_Some}
-use Rattle.std.proofs.lemmas.List.{length-take-le, length-drop}
 use Rattle.corr_game.specs.declared.nodes.Node.{Node}
 use Rattle.corr_game.specs.Node.{kids_of}
-use Rattle.corr_game.specs.Preorder.{from_last, row_end, InRow, end_of}
+use Rattle.corr_game.specs.Preorder.{from_last, row_end, InRow}
 use Rattle.corr_game.proofs.FromLast.{from_last-here, from_last-behind}
 use Rattle.efg_reader.specs.declared.events.Bare.{Bare}
-use Rattle.efg_reader.specs.declared.raw_game.RawNode.{RawNode}
 use Rattle.efg_reader.specs.declared.events.Event.{Event}
 use Rattle.efg_reader.specs.declared.events.Event.TheVariants as event
 use Rattle.efg_reader.specs.Assembly.{assembled, shape_with}
@@ -48,6 +46,16 @@ row_end-split : (n start : ℕ) (kids : List ℕ) (ends : ℕ → ℕ) → row_e
 row_end-split zero start kids ends = refl
 row_end-split (suc n) start [] ends = refl
 row_end-split (suc n) start (kid ∷ kids) ends = row_end-split n (ends kid) kids ends
+
+-- where the first of these subtrees begins, or `last` where there is none
+abbrev pub first_or : ℕ → List ℕ → ℕ
+first_or last [] = last
+first_or last (root ∷ roots) = root
+
+-- a row up to `last` begins with its first subtree
+pub first_in_row : (last start : ℕ) (roots : List ℕ) (ends : ℕ → ℕ) → InRow start roots ends → row_end start roots ends ≡ last → first_or last roots ≡ start
+first_in_row last start [] ends row whole = sym whole
+first_in_row last start (root ∷ roots) ends row whole = row.0
 
 -- a kid stands behind its node and in the list
 abbrev pub IsWithin : ℕ → ℕ → ℕ → Type 0
@@ -110,6 +118,15 @@ module _ (at : ℕ) (bare : Bare) (rest : List Bare) (tail : Stands (at + 1) res
   own_end : ends at ≡ row_end (at + 1) kids inner
   unfolding ends inner
   own_end = from_last-here end_step 0 at own nodes ∙ ap (λ (ks : List ℕ). row_end (at + 1) ks (from_last end_step 0 (at + 1) nodes)) own_kids
+
+  -- the first node's subtree ends where the first subtree begins that isn't its kid's
+  pub own_last : from_last end_step 0 at (bare_nodes (assembled at (bare ∷ rest)).0) at ≡ first_or (at + length (bare ∷ rest)) (drop bare.kids (assembled (at + 1) rest).1)
+  unfolding assembled own kids nodes ends inner others
+  own_last =
+      let last : at + 1 + length rest ≡ at + length (bare ∷ rest) = omega arith in
+      own_end
+      ∙ sym (first_in_row (at + length (bare ∷ rest)) (row_end (at + 1) kids inner) others inner (row-drop bare.kids (at + 1) (assembled (at + 1) rest).1 inner tail.row)
+      (row_end-split bare.kids (at + 1) (assembled (at + 1) rest).1 inner ∙ tail.whole ∙ last))
 
   all_from : AllFrom (at + 1) (assembled (at + 1) rest).1
   all_from = from-within (at + 1) (at + 1 + length rest) (assembled (at + 1) rest).1 tail.within

@@ -1,19 +1,18 @@
 -- A list of nodes that leaves nothing waiting is one tree: what the nodes up to a place wait for is as many subtrees as
 -- stand in a row behind it.
-use Rattle.std.proofs.Common.{◌≡◌, ℕ, zero, suc, ◌+◌, ◌-◌, ◌<◌, ◌≤◌, Bool, true, false, cond, eqb, List, [], ◌∷◌, ◌++◌, Option, Some, None, length, take, drop, slice_get, refl, ◌⊎◌, inl, inr, ap, sym, subst, ◌∙◌, arith}
+use Rattle.std.proofs.Common.{◌≡◌, ℕ, suc, ◌+◌, ◌-◌, ◌<◌, Bool, true, false, cond, eqb, List, [], ◌∷◌, ◌++◌, Some, None, length, slice_get, refl, ◌⊎◌, inl, inr, ap, sym, subst, arith}
 use Rattle.std.proofs.lemmas.Bool.{eqb-false}
 use Rattle.std.proofs.lemmas.Bool.Decides.{nat_tests}
 use Rattle.std.proofs.lemmas.List.Elements.{All-weaker}
-use Rattle.std.proofs.lemmas.List.{length-take-le, length-drop}
+use Rattle.std.proofs.lemmas.List.{length-drop}
 use Rattle.std.proofs.lemmas.Option.{none-some, same_Some}
 use Rattle.efg_reader.specs.declared.events.Bare.{Bare}
 use Rattle.efg_reader.specs.Assembly.{assembled}
 use Rattle.corr_game.specs.declared.nodes.Node.{Node}
-use Rattle.corr_game.specs.declared.nodes.SetInfo.{SetInfo}
 use Rattle.corr_game.specs.Node.{kids_of}
 use Rattle.corr_game.specs.Game.{AreBehind}
 use Rattle.corr_game.specs.Preorder.{from_last, row_end, InRow, end_of}
-use Rattle.efg_reader.specs.RawGame.{bare_nodes, IsRawGame}
+use Rattle.efg_reader.specs.RawGame.{bare_nodes}
 use Rattle.efg_reader.proofs.OneTree.{IsWithin, end_step, stands}
 use Rattle.efg_reader.specs.Places.{awaited}
 
@@ -23,7 +22,7 @@ chosen true x y z e = inl (refl, e)
 chosen false x y z e = inr (refl, e)
 
 -- a node stands where something was waited for
-awaited-head : (places : ℕ) (bare : Bare) (rest : List Bare) (left : ℕ) → awaited places (bare ∷ rest) ≡ Some left → (0 < places) × (awaited (places - 1 + bare.kids) rest ≡ Some left)
+pub awaited-head : (places : ℕ) (bare : Bare) (rest : List Bare) (left : ℕ) → awaited places (bare ∷ rest) ≡ Some left → (0 < places) × (awaited (places - 1 + bare.kids) rest ≡ Some left)
 awaited-head places bare rest left e =
     elim (chosen (eqb places 0) None (awaited (places - 1 + bare.kids) rest) (Some left) e) [
       | inl over ↦ absurd (none-some left over.1)
@@ -86,17 +85,3 @@ length-assembled at (bare ∷ rest) = ap suc (length-assembled (at + 1) rest)
 -- the node that a line adds takes the place of a subtree that was waited for
 pub tree_more : (before now after : List Bare) (bare : Bare) (left next : ℕ) → awaited 1 before ≡ Some left → now ≡ before → after ≡ now ++ bare ∷ [] → 0 < left → next + 1 ≡ left + bare.kids → awaited 1 after ≡ Some next
 tree_more before now after bare left next tree same push some more = rw (push, same) (awaited-push 1 before bare left next tree some more)
-
--- the rules that the assembled nodes of one tree keep
-pub is_raw_game : (bares : List Bare) (one two : List SetInfo) → awaited 1 bares ≡ Some 0 → length bares ≤ 4096 → length one ≤ 4096 → length two ≤ 4096 → IsRawGame (record { nodes = (assembled 0 bares).0; one = one; two = two })
-is_raw_game bares one two closed few few_one few_two =
-    let count = length-assembled 0 bares in
-    record {
-      has_root = omega (arith, count, some_node bares closed);
-      at_most = omega (arith, count);
-      behind = λ n node e. subst (λ (k : ℕ). AreBehind k n (kids_of node)) (sym count) (behind bares n node e);
-      in_row = in_row bares;
-      one_tree = one_tree bares closed ∙ sym count;
-      one = few_one;
-      two = few_two;
-    }

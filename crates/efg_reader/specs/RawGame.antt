@@ -1,13 +1,12 @@
 -- A game as its file says.
-use Rattle.std.specs.Prelude.{◌≡◌, ℕ, ◌+◌, ◌^◌, ◌<◌, ◌≤◌, List, length, map, Some, slice_get, pos}
+use Rattle.std.specs.Prelude.{◌≡◌, ℕ, ◌^◌, ◌≤◌, List, length, map, All, Some, slice_get, pos, ◌≤ℤ◌, unsigned_abs}
 use Rattle.corr_game.specs.declared.nodes.Node.{Node}
 use Rattle.corr_game.specs.declared.nodes.Node.TheVariants as node
 use Rattle.corr_game.specs.declared.nodes.SetInfo.{SetInfo}
 use Rattle.corr_game.specs.declared.sides.Side.{Side}
 use Rattle.corr_game.specs.declared.sides.Side.TheVariants.{One, Two}
-use Rattle.corr_game.specs.Game.{GameView, AreBehind}
-use Rattle.corr_game.specs.Node.{kids_of}
-use Rattle.corr_game.specs.Preorder.{InRow, end_of}
+use Rattle.corr_game.specs.Game.{GameView, IsGame}
+use Rattle.corr_num.specs.Fraction.{Fraction}
 use Rattle.efg_reader.specs.declared.raw_game.RawNode.{RawNode}
 use Rattle.efg_reader.specs.declared.raw_game.Shape.{Shape}
 use Rattle.efg_reader.specs.declared.raw_game.Shape.TheVariants as shape
@@ -36,12 +35,22 @@ bare_nodes nodes = map (λ (n : RawNode). bare_node n.shape) nodes
 abbrev pub bare_game : RawGameView → GameView
 bare_game game = record { nodes = bare_nodes game.nodes; one = game.one; two = game.two; scale_one = pos 1; scale_two = pos 1 }
 
--- the nodes are the preorder of one tree, and sets are numbered in 32 bits
+-- a number within the limits of the format: its numerator and denominator in lowest terms
+abbrev pub IsLimited : Fraction → Type 0
+IsLimited number = (unsigned_abs number.num ≤ 2 ^ 40) × (unsigned_abs number.den ≤ 2 ^ 24)
+
+-- a probability is within the limits, and from 0 to 1
+abbrev pub IsProbability : Fraction → Type 0
+IsProbability number = IsLimited number × (pos 0 ≤ℤ number.num) × (number.num ≤ℤ number.den)
+
+-- a chance node has one probability a kid
+abbrev pub HasProbabilities : Shape → Type 0
+HasProbabilities shape.Leaf = Unit {0}
+HasProbabilities (shape.Chance kids probs) = (length probs ≡ length kids) × All IsProbability probs
+HasProbabilities (shape.Choice side set kids) = Unit {0}
+
+-- the tree is that of a game, chance nodes have probabilities, and payoffs are within the limits
 pub record IsRawGame (game : RawGameView) : Type 0 where
-  pub has_root : 0 < length (bare_nodes game.nodes)
-  pub at_most : length (bare_nodes game.nodes) ≤ 4096
-  pub behind : (n : ℕ) (node : Node) → slice_get (bare_nodes game.nodes) n ≡ Some node → AreBehind (length (bare_nodes game.nodes)) n (kids_of node)
-  pub in_row : (n : ℕ) (node : Node) → slice_get (bare_nodes game.nodes) n ≡ Some node → InRow (n + 1) (kids_of node) (end_of (bare_nodes game.nodes))
-  pub one_tree : end_of (bare_nodes game.nodes) 0 ≡ length (bare_nodes game.nodes)
-  pub one : length game.one ≤ 4096
-  pub two : length game.two ≤ 4096
+  pub tree : IsGame (bare_game game)
+  pub probabilities : (n : ℕ) (node : RawNode) → slice_get game.nodes n ≡ Some node → HasProbabilities node.shape
+  pub payoffs : (n : ℕ) (node : RawNode) → slice_get game.nodes n ≡ Some node → IsLimited node.one × IsLimited node.two

@@ -1,22 +1,29 @@
 //! The rules at the nodes of a file, one line after the other.
 
-ghost use Rattle.std.specs.Prelude.{◌≡◌, ◌+◌, ◌≤◌, ◌<◌, ◌^◌, length, vec_len, map, slice_get, Some, IsTrue, IfOk, OnOk};
-ghost use Rattle.indexmap.specs.IndexMap.{index_map_len};
-ghost use Rattle.efg_reader.specs.Event.{is_fit};
-ghost use Rattle.efg_reader.specs.Outline.{places};
+ghost use Rattle.std.specs.Prelude.{◌≡◌, ◌+◌, ◌≤◌, ◌<◌, ◌^◌, length, vec_len, map, slice_get, Some, IsTrue, IfOk, IfSome, OnOk, All, nat_eq, option_map, ◌++◌, ◌∷◌, []};
+ghost use Rattle.std.specs.List.{IsDistinct};
+ghost use Rattle.indexmap.specs.IndexMap.{index_map_len, keys};
+ghost use Rattle.efg_reader.specs.Event.{is_fit, HasChances, IsDraw};
+ghost use Rattle.efg_reader.specs.Number.{IsPart};
+ghost use Rattle.efg_reader.specs.RawGame.{IsProbability};
+ghost use Rattle.corr_game.specs.declared.sides.Side.TheVariants.{One, Two};
+ghost use Rattle.efg_reader.specs.Turn.{acts_in, IsTurnOf};
+ghost use Rattle.efg_reader.specs.Above.{AreShallow};
+ghost use Rattle.efg_reader.specs.Outline.{above, places};
 ghost use Rattle.efg_reader.specs.Places.{awaited};
-ghost use Rattle.efg_reader.specs.Sets.{info_of};
+ghost use Rattle.efg_reader.specs.Sets.{info_of, turn_of, AreChances, AreSetsOf, IsChoice, IsWhole};
 
 use crate::chances::{common_denominator, has_negative, sums_to_one};
 use crate::entry::{Entry, Turn, read_entry};
 use crate::events::{Bare, Event};
-use crate::first_lists::{FirstList, OutcomePays, define_set, list_at};
+use crate::first_lists::{FirstList, OutcomePays};
 use crate::node_line::{ActLines, LineKind, NodeLine};
 use crate::numbers::Number;
 use crate::outline::Outline;
 use crate::raw_file::RawFile;
 use crate::raw_game::{FracList, RawGame};
 use crate::refusal::FileRefusal;
+use crate::set_lists::{define_set, list_at};
 use crate::tree::assemble;
 use corr_game::{SetId, SetInfo, Side};
 use indexmap::IndexMap;
@@ -55,8 +62,10 @@ impl<'a> Builder<'a> {
     fn new(alloc: Global) -> Builder<'a>
         ensures nodes { vec_len result.nodes ≡ 0 }
         ensures tree { awaited 1 result.nodes.items ≡ Some (places result.outline) }
-        ensures one { index_map_len result.one ≡ 0 }
-        ensures two { index_map_len result.two ≡ 0 }
+        ensures shallow { AreShallow [] result.nodes.items (above result.outline) }
+        ensures one { AreSetsOf One (map turn_of result.nodes.items) result.one.entries }
+        ensures two { AreSetsOf Two (map turn_of result.nodes.items) result.two.entries }
+        ensures chance { AreChances result.chance.entries }
     {
         Builder {
             alloc,
@@ -73,12 +82,16 @@ impl<'a> Builder<'a> {
     fn add(&mut self, line: &'a NodeLine) -> Result<(), FileRefusal>
         requires nodes { vec_len self.old.nodes ≤ 4096 }
         requires tree { awaited 1 self.old.nodes.items ≡ Some (places self.old.outline) }
-        requires one { index_map_len self.old.one ≤ vec_len self.old.nodes }
-        requires two { index_map_len self.old.two ≤ vec_len self.old.nodes }
+        requires shallow { AreShallow [] self.old.nodes.items (above self.old.outline) }
+        requires one { AreSetsOf One (map turn_of self.old.nodes.items) self.old.one.entries }
+        requires two { AreSetsOf Two (map turn_of self.old.nodes.items) self.old.two.entries }
+        requires chance { AreChances self.old.chance.entries }
         ensures nodes { OnOk result (vec_len self.new.nodes ≤ 4096) }
         ensures tree { OnOk result (awaited 1 self.new.nodes.items ≡ Some (places self.new.outline)) }
-        ensures one { OnOk result (index_map_len self.new.one ≤ vec_len self.new.nodes) }
-        ensures two { OnOk result (index_map_len self.new.two ≤ vec_len self.new.nodes) }
+        ensures shallow { OnOk result (AreShallow [] self.new.nodes.items (above self.new.outline)) }
+        ensures one { OnOk result (AreSetsOf One (map turn_of self.new.nodes.items) self.new.one.entries) }
+        ensures two { OnOk result (AreSetsOf Two (map turn_of self.new.nodes.items) self.new.two.entries) }
+        ensures chance { OnOk result (AreChances self.new.chance.entries) }
     {
         let node = self.nodes.len() as u32;
         self.check_place(node)?;
@@ -90,7 +103,7 @@ impl<'a> Builder<'a> {
             outcome,
             pays,
         } = entry;
-        let (event, kids) = self.take_turn(acts_of(&line.kind), turn, node)?;
+        let (event, kids) = self.take_turn(&line.kind, turn, node)?;
         let pays = self.take_outcome(line.pays.is_some(), outcome, pays.as_slice(), node)?;
         self.outline.place(kids)?;
         self.nodes.push(Bare {
@@ -106,6 +119,7 @@ impl<'a> Builder<'a> {
     fn check_place(&self, node: u32) -> Result<(), FileRefusal>
         ensures few { OnOk result (node < 4096) }
         ensures waits { OnOk result (0 < places self.now.outline) }
+        ensures shallow { OnOk result (length (above self.now.outline) ≤ 256) }
     {
         if self.outline.is_closed() {
             return Err(FileRefusal::ExtraNode { node });
@@ -122,30 +136,35 @@ impl<'a> Builder<'a> {
     /// The rules on who moves, the list of actions and the set; what happens at the node, and how many kids it has.
     fn take_turn(
         &mut self,
-        acts: Option<&'a ActLines>,
+        line: &'a LineKind,
         turn: Turn,
         node: u32,
     ) -> Result<(Event, u32), FileRefusal>
-        requires one { index_map_len self.old.one < 4096 }
-        requires two { index_map_len self.old.two < 4096 }
+        requires turn { IsTurnOf line.now turn }
+        requires few { vec_len self.old.nodes < 4096 }
+        requires one { AreSetsOf One (map turn_of self.old.nodes.items) self.old.one.entries }
+        requires two { AreSetsOf Two (map turn_of self.old.nodes.items) self.old.two.entries }
+        requires chance { AreChances self.old.chance.entries }
         ensures nodes { self.new.nodes ≡ self.old.nodes }
         ensures outline { self.new.outline ≡ self.old.outline }
         ensures fits { IfOk result (λ it. IsTrue (is_fit it.0 it.1)) }
-        ensures one { OnOk result (index_map_len self.new.one ≤ index_map_len self.old.one + 1) }
-        ensures two { OnOk result (index_map_len self.new.two ≤ index_map_len self.old.two + 1) }
+        ensures chances { IfOk result (λ it. HasChances it.0 it.1) }
+        ensures one { IfOk result (λ it. AreSetsOf One (map turn_of self.old.nodes.items ++ it ∷ []) self.new.one.entries) }
+        ensures two { IfOk result (λ it. AreSetsOf Two (map turn_of self.old.nodes.items ++ it ∷ []) self.new.two.entries) }
+        ensures chance { OnOk result (AreChances self.new.chance.entries) }
     {
         match turn {
             Turn::Leaf => Ok((Event::Leaf, 0)),
             Turn::Chance { set, probs } => {
-                let list = checked_list(acts, probs, node)?;
+                let list = checked_list(acts_of(line), probs, node)?;
                 take_chance(self.alloc, &mut self.chance, set, list, node)
             }
             Turn::Player { player: 1, set } => {
-                let list = checked_list(acts, Vec::new(self.alloc), node)?;
+                let list = checked_list(acts_of(line), Vec::new(self.alloc), node)?;
                 take_choice(&mut self.one, Side::One, set, list, node)
             }
             Turn::Player { player: 2, set } => {
-                let list = checked_list(acts, Vec::new(self.alloc), node)?;
+                let list = checked_list(acts_of(line), Vec::new(self.alloc), node)?;
                 take_choice(&mut self.two, Side::Two, set, list, node)
             }
             Turn::Player { .. } => Err(FileRefusal::PlayerUnknown { node }),
@@ -164,6 +183,7 @@ impl<'a> Builder<'a> {
         ensures outline { self.new.outline ≡ self.old.outline }
         ensures one { self.new.one ≡ self.old.one }
         ensures two { self.new.two ≡ self.old.two }
+        ensures chance { self.new.chance ≡ self.old.chance }
     {
         let known = if outcome == 0 {
             Some(OutcomePays::nothing())
@@ -199,8 +219,9 @@ impl<'a> Builder<'a> {
     fn finish(self) -> Result<RawGame, FileRefusal>
         requires nodes { vec_len self.nodes ≤ 4096 }
         requires tree { awaited 1 self.nodes.items ≡ Some (places self.outline) }
-        requires one { index_map_len self.one ≤ vec_len self.nodes }
-        requires two { index_map_len self.two ≤ vec_len self.nodes }
+        requires shallow { AreShallow [] self.nodes.items (above self.outline) }
+        requires one { AreSetsOf One (map turn_of self.nodes.items) self.one.entries }
+        requires two { AreSetsOf Two (map turn_of self.nodes.items) self.two.entries }
     {
         if !self.outline.is_closed() {
             return Err(FileRefusal::MissingNode {
@@ -215,7 +236,9 @@ impl<'a> Builder<'a> {
 }
 
 /// The list of a line, where it has one.
-fn acts_of(kind: &LineKind) -> Option<&ActLines> {
+fn acts_of(kind: &LineKind) -> Option<&ActLines>
+    ensures { option_map (λ acts. acts.now) result ≡ acts_in kind.now }
+{
     match kind {
         LineKind::Chance { acts, .. } => acts.as_ref(),
         LineKind::Player { acts, .. } => acts.as_ref(),
@@ -228,7 +251,9 @@ fn checked_list<'a>(
     acts: Option<&'a ActLines>,
     probs: Vec<Number>,
     node: u32,
-) -> Result<Option<FirstList<'a>>, FileRefusal> {
+) -> Result<Option<FirstList<'a>>, FileRefusal>
+    ensures { IfSome acts.entry (λ lines. length probs.items ≡ length lines.now) → IfOk result (λ list. IfSome list IsWhole) }
+{
     let Some(acts) = acts else {
         return Ok(None);
     };
@@ -247,18 +272,33 @@ fn take_chance<'a>(
     list: Option<FirstList<'a>>,
     node: u32,
 ) -> Result<(Event, u32), FileRefusal>
-    ensures { IfOk result (λ it. IsTrue (is_fit it.0 it.1)) }
+    requires each { IfSome list IsWhole }
+    requires lists { AreChances lists.old.entries }
+    ensures fits { IfOk result (λ it. IsTrue (is_fit it.0 it.1)) }
+    ensures chances { IfOk result (λ it. HasChances it.0 it.1) }
+    ensures lists { OnOk result (AreChances lists.new.entries) }
+    ensures draw { IfOk result (λ it. IsDraw it.0) }
 {
-    if let Some(list) = &list {
-        check_chances(list.probs.as_slice(), node)?;
-    }
+    check_list_chances(&list, node)?;
     let index = define_set(lists, set, list, node)?;
     let first = list_at(lists, index);
     let probs = fracs_of(alloc, first.probs.as_slice())?;
     Ok((Event::Chance { probs }, first.acts.len() as u32))
 }
 
-fn check_chances(probs: &[Number], node: u32) -> Result<(), FileRefusal> {
+/// The rules on the probabilities, where the line has a list.
+fn check_list_chances(list: &Option<FirstList>, node: u32) -> Result<(), FileRefusal>
+    ensures { OnOk result (IfSome list.now (λ own. All IsPart own.probs.items)) }
+{
+    match list {
+        Some(list) => check_chances(list.probs.as_slice(), node),
+        None => Ok(()),
+    }
+}
+
+fn check_chances(probs: &[Number], node: u32) -> Result<(), FileRefusal>
+    ensures { OnOk result (All IsPart probs.now) }
+{
     if has_negative(probs) {
         return Err(FileRefusal::ChanceNegative { node });
     }
@@ -280,8 +320,8 @@ fn take_choice<'a>(
     node: u32,
 ) -> Result<(Event, u32), FileRefusal>
     requires { index_map_len lists.old < 4096 }
-    ensures grows { OnOk result (index_map_len lists.new ≤ index_map_len lists.old + 1) }
     ensures fits { IfOk result (λ it. IsTrue (is_fit it.0 it.1)) }
+    ensures choice { IfOk result (λ it. IsChoice side lists.old.entries set list.entry lists.new.entries it.0 it.1) }
 {
     let index = define_set(lists, set, list, node)?;
     let kids = list_at(lists, index).acts.len() as u32;
@@ -289,7 +329,11 @@ fn take_choice<'a>(
     Ok((Event::Choice { side, set }, kids))
 }
 
-fn fracs_of(alloc: Global, numbers: &[Number]) -> Result<FracList, NoMemory> {
+fn fracs_of(alloc: Global, numbers: &[Number]) -> Result<FracList, NoMemory>
+    requires { All IsPart numbers.now }
+    ensures count { IfOk result (λ fracs. length fracs ≡ length numbers.now) }
+    ensures parts { IfOk result (λ fracs. All IsProbability fracs) }
+{
     let mut fracs = FracList::new(alloc);
     for number in numbers {
         fracs.push(number.frac())?;
@@ -301,6 +345,7 @@ fn fracs_of(alloc: Global, numbers: &[Number]) -> Result<FracList, NoMemory> {
 fn infos(alloc: Global, lists: &IndexMap<u32, FirstList>) -> Result<Vec<SetInfo>, NoMemory>
     ensures count { IfOk result (λ infos. length infos.items ≡ index_map_len lists.now) }
     ensures each { IfOk result (λ infos. infos.items ≡ map info_of lists.now.entries) }
+    ensures own_files { IsDistinct nat_eq (keys lists.now) }
 {
     let mut infos = Vec::new(alloc);
     for index in 0..lists.len() {

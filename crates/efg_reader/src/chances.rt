@@ -1,6 +1,7 @@
 //! The rules on the probabilities of a chance line.
 
-ghost use Rattle.std.specs.Prelude.{◌≡◌, ◌^◌, ◌<◌, ◌≤◌, length, IfSome};
+ghost use Rattle.std.specs.Prelude.{◌≡◌, ◌^◌, ◌<◌, ◌≤◌, length, All, IfSome, IsTrue, false};
+ghost use Rattle.efg_reader.specs.Number.{IsPart};
 
 use crate::numbers::{Number, common_divisor};
 
@@ -8,7 +9,9 @@ use crate::numbers::{Number, common_divisor};
 const COMMON_LIMIT: u128 = 1_099_511_627_776;
 
 /// Whether a probability is below 0.
-pub fn has_negative(probs: &[Number]) -> bool {
+pub fn has_negative(probs: &[Number]) -> bool
+    ensures { result ≡ false → All (λ prob. prob.negative ≡ false) probs.now }
+{
     for prob in probs {
         if prob.negative {
             return true;
@@ -34,12 +37,14 @@ pub fn common_denominator(probs: &[Number]) -> Option<u128>
 
 /// Whether the probabilities, none of which is below 0, sum to 1 over their common denominator.
 pub fn sums_to_one(probs: &[Number], common: u128) -> bool
-    requires { common ≤ 2 ^ 40 }
+    requires few { common ≤ 2 ^ 40 }
+    requires signs { All (λ prob. prob.negative ≡ false) probs.now }
+    ensures { IsTrue result → All IsPart probs.now }
 {
     let mut total = 0;
     for prob in probs {
         total += u128::from(prob.num) * (common / u128::from(prob.den));
-        if total > common {
+        if prob.num > prob.den || total > common {
             return false;
         }
     }

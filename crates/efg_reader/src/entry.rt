@@ -1,8 +1,9 @@
 //! The numbers of a node line.
 
 ghost use Rattle.std.specs.Prelude.{◌≡◌, ◌≤◌, ◌<◌, ◌^◌, length, vec_len, IfOk, IfSome};
+ghost use Rattle.efg_reader.specs.Turn.{acts_in, IsTurnOf};
 
-use crate::node_line::{ActLines, LineKind, NodeLine, PayWords};
+use crate::node_line::{ActLine, ActLines, LineKind, NodeLine, PayWords};
 use crate::numbers::{Number, number_value, whole_value};
 use std::alloc::{AllocError as NoMemory, Global};
 
@@ -23,7 +24,9 @@ pub struct Entry {
 }
 
 /// The numbers of a line; none where one of them passes its limit.
-pub fn read_entry(alloc: Global, line: &NodeLine) -> Result<Option<Entry>, NoMemory> {
+pub fn read_entry(alloc: Global, line: &NodeLine) -> Result<Option<Entry>, NoMemory>
+    ensures { IfOk result (λ entry. IfSome entry (λ it. IsTurnOf line.now.kind it.turn)) }
+{
     let Some(turn) = read_turn(alloc, &line.kind)? else {
         return Ok(None);
     };
@@ -40,7 +43,9 @@ pub fn read_entry(alloc: Global, line: &NodeLine) -> Result<Option<Entry>, NoMem
     }))
 }
 
-fn read_turn(alloc: Global, kind: &LineKind) -> Result<Option<Turn>, NoMemory> {
+fn read_turn(alloc: Global, kind: &LineKind) -> Result<Option<Turn>, NoMemory>
+    ensures { IfOk result (λ turn. IfSome turn (IsTurnOf kind.now)) }
+{
     match kind {
         LineKind::Chance { set, acts } => {
             let Some(set) = whole_value(set.as_slice()) else {
@@ -64,19 +69,35 @@ fn read_turn(alloc: Global, kind: &LineKind) -> Result<Option<Turn>, NoMemory> {
     }
 }
 
-fn read_probs(alloc: Global, acts: &Option<ActLines>) -> Result<Option<Vec<Number>>, NoMemory> {
+/// A probability for each action of the list.
+fn read_probs(alloc: Global, acts: &Option<ActLines>) -> Result<Option<Vec<Number>>, NoMemory>
+    ensures { IfOk result (λ probs. IfSome probs (λ it. IfSome acts.now (λ lines. vec_len it ≡ length lines))) }
+{
+    match acts {
+        Some(acts) => probs_of(alloc, acts),
+        None => Ok(Some(Vec::new(alloc))),
+    }
+}
+
+fn probs_of(alloc: Global, acts: &ActLines) -> Result<Option<Vec<Number>>, NoMemory>
+    ensures { IfOk result (λ probs. IfSome probs (λ it. vec_len it ≡ length acts.now)) }
+{
     let mut probs = Vec::new(alloc);
-    if let Some(acts) = acts {
-        for k in 0..acts.len() {
-            if let Some(word) = &acts.at(k).prob {
-                let Some(prob) = number_value(word.as_slice()) else {
-                    return Ok(None);
-                };
-                probs.push(prob)?;
-            }
-        }
+    for k in 0..acts.len() {
+        let Some(prob) = prob_of(acts.at(k)) else {
+            return Ok(None);
+        };
+        probs.push(prob)?;
     }
     Ok(Some(probs))
+}
+
+/// The probability of an action, 0 where the line has no word for it; none where it passes its limit.
+fn prob_of(act: &ActLine) -> Option<Number> {
+    match &act.prob {
+        Some(word) => number_value(word.as_slice()),
+        None => Some(Number::null()),
+    }
 }
 
 fn read_pays(alloc: Global, words: &Option<PayWords>) -> Result<Option<Vec<Number>>, NoMemory> {

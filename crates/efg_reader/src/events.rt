@@ -1,5 +1,6 @@
 ghost use Rattle.std.specs.Prelude.{IsTrue};
-ghost use Rattle.efg_reader.specs.Event.{is_fit};
+ghost use Rattle.efg_reader.specs.Event.{is_fit, HasChances};
+ghost use Rattle.efg_reader.specs.RawGame.{IsLimited};
 
 use crate::raw_game::FracList;
 use corr_game::{SetId, Side};
@@ -21,4 +22,7 @@ pub struct Bare {
     pub one: Frac,
     pub two: Frac,
     ghost fits: { IsTrue (is_fit event kids) },
+    ghost chances: { HasChances event kids },
+    ghost one_limited: { IsLimited one },
+    ghost two_limited: { IsLimited two },
 }

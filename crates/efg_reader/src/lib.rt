@@ -22,6 +22,7 @@ mod outline;
 mod raw_file;
 mod raw_game;
 mod refusal;
+mod set_lists;
 mod state;
 mod tree;
 mod words;

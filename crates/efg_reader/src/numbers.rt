@@ -26,7 +26,13 @@ pub struct Number {
 }
 
 impl Number {
-    pub fn null() -> Number {
+    ghost use Rattle.std.specs.Prelude.{◌≡◌, pos, false, unsigned_abs};
+    ghost use Rattle.efg_reader.specs.Number.{IsPart};
+    ghost use Rattle.efg_reader.specs.RawGame.{IsLimited, IsProbability};
+
+    pub fn null() -> Number
+        ensures { IsPart result }
+    {
         Number {
             negative: false,
             num: 0,
@@ -35,9 +41,20 @@ impl Number {
     }
 
     /// The number as a fraction.
-    pub fn frac(&self) -> Frac {
+    pub fn frac(&self) -> Frac
+        ensures limited { IsLimited result }
+        ensures part { IsPart self.now → IsProbability result }
+    {
+        Frac::of(self.signed(), i128::from(self.den))
+    }
+
+    /// The numerator with the sign.
+    fn signed(&self) -> i128
+        ensures size { unsigned_abs result ≡ self.now.num }
+        ensures plain { self.now.negative ≡ false → result ≡ pos self.now.num }
+    {
         let num = i128::from(self.num);
-        Frac::of(if self.negative { -num } else { num }, i128::from(self.den))
+        if self.negative { -num } else { num }
     }
 }
 

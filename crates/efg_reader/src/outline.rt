@@ -1,4 +1,5 @@
-ghost use Rattle.std.specs.Prelude.{◌≡◌, ◌<◌, ◌-◌, false, slice_index, vec_len, sum};
+ghost use Rattle.std.specs.Prelude.{◌≡◌, ◌<◌, ◌-◌, false, slice_index, vec_len, sum, reverse};
+ghost use Rattle.efg_reader.specs.Above.{without_complete};
 
 use std::alloc::{AllocError as NoMemory, Global};
 
@@ -12,11 +13,13 @@ pub struct Outline {
 }
 
 impl Outline {
-    ghost use Rattle.std.specs.Prelude.{◌+◌, ◌≤◌, ◌↔◌, OnOk, IsTrue};
-    ghost use Rattle.efg_reader.specs.Outline.{places};
+    ghost use Rattle.std.specs.Prelude.{◌+◌, ◌≤◌, ◌↔◌, [], length, OnOk, IsTrue};
+    ghost use Rattle.efg_reader.specs.Above.{above_next};
+    ghost use Rattle.efg_reader.specs.Outline.{places, above};
 
     pub fn new(alloc: Global) -> Outline
-        ensures { places result ≡ 1 }
+        ensures places { places result ≡ 1 }
+        ensures above { above result ≡ [] }
     {
         Outline {
             awaited: Vec::new(alloc),
@@ -32,14 +35,17 @@ impl Outline {
     }
 
     /// How many nodes are above the next one.
-    pub fn depth(&self) -> usize {
+    pub fn depth(&self) -> usize
+        ensures { result ≡ length (above self.now) }
+    {
         self.awaited.len()
     }
 
     /// The next node has this many kids.
     pub fn place(&mut self, kids: u32) -> Result<(), NoMemory>
         requires { 0 < places self.old }
-        ensures { OnOk result (places self.new + 1 ≡ places self.old + kids) }
+        ensures places { OnOk result (places self.new + 1 ≡ places self.old + kids) }
+        ensures above { OnOk result (above self.new ≡ above_next (above self.old) kids) }
     {
         let above = self.awaited.len();
         self.awaited.push(kids)?;
@@ -55,6 +61,7 @@ impl Outline {
 /// Takes off the nodes that wait for no more kids.
 fn drop_complete(awaited: &mut Vec<u32>)
     ensures sum { sum awaited.new.items ≡ sum awaited.old.items }
+    ensures above { reverse awaited.new.items ≡ without_complete (reverse awaited.old.items) }
     ensures waits { 0 < vec_len awaited.new → 0 < slice_index awaited.new.items (vec_len awaited.new - 1) }
 {
     while let Some(0) = awaited.last() {

@@ -1,8 +1,7 @@
 -- The token is the first of what was left, and the machine goes on with it.
-use Rattle.std.proofs.Common.{◌≡◌, ◌+◌, ◌<◌, ◌++◌, ◌∷◌, [], Result, Ok, Some, List, ap, sym, refl, subst, ◌∙◌, arith, ℕ}
+use Rattle.std.proofs.Common.{◌≡◌, ◌+◌, ◌<◌, ◌++◌, ◌∷◌, [], Result, Ok, Some, sym, subst, ◌∙◌, arith}
 use Rattle.efg_token.specs.Cursor.{left}
 use Rattle.efg_token.specs.Front.{front, found, gap}
-use Rattle.efg_token.specs.Lexeme.{Lexeme}
 use Rattle.efg_token.specs.Seen.{lexeme, IfFound}
 use Rattle.efg_token.specs.declared.token.Spot.{Spot}
 use Rattle.efg_token.specs.declared.token.TokenFault.{TokenFault}

@@ -1,5 +1,5 @@
 -- No power up to the 30th is above the 30th.
-use Rattle.std.proofs.Common.{ℕ, ◌<◌, ◌≤◌, ◌^◌, arith}
+use Rattle.std.proofs.Common.{◌<◌, ◌≤◌, ◌^◌, arith}
 use Rattle.std.proofs.Math.Nat.{pow-le-pow_right}
 use Rattle.efg_reader.proofs.numbers.power_of_ten.Goals as goal
 

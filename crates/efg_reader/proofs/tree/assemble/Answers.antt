@@ -1,10 +1,9 @@
-use Rattle.std.proofs.Common.{List, [], ◌∷◌, ◌++◌, length, sym, ap, ◌∙◌, arith, rules, refl}
-use Rattle.std.proofs.lemmas.List.{append-nil, append_assoc, length_push}
+use Rattle.std.proofs.Common.{List, [], ◌∷◌, ◌++◌, sym, ap, ◌∙◌, arith}
+use Rattle.std.proofs.lemmas.List.{append-nil, append_assoc}
 use Rattle.efg_reader.specs.declared.events.Bare.{Bare}
 use Rattle.efg_reader.specs.declared.raw_game.RawNode.{RawNode}
 use Rattle.efg_reader.specs.Assembly.{assembled}
 use Rattle.efg_reader.proofs.Assembling.{nodes_more, roots_more}
-use Rattle.efg_reader.proofs.Widths.{one_tree, in_row, behind, some_node, length-assembled}
 use Rattle.efg_reader.proofs.tree.assemble.Goals as goal
 
 pub loop-bare-init : goal.loop-bare-init

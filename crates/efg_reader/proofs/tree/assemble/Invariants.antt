@@ -1,5 +1,5 @@
 -- The nodes that are still listed stand before those that have their kids.
-use Rattle.std.proofs.Common.{◌≡◌, ◌+◌, ◌<◌, ◌^◌, ◌++◌, List, vec_len, length, reverse}
+use Rattle.std.proofs.Common.{◌≡◌, ◌<◌, ◌^◌, ◌++◌, List, vec_len, length, reverse}
 use Rattle.efg_reader.specs.declared.events.Bare.{Bare}
 use Rattle.efg_reader.specs.Assembly.{assembled}
 use Rattle.efg_reader.proofs.tree.assemble.Given as goal

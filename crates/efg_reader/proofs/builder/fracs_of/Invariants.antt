@@ -1,0 +1,8 @@
+-- A probability for each number so far.
+use Rattle.std.proofs.Common.{◌≡◌, length}
+use Rattle.std.specs.Prelude.{All}
+use Rattle.efg_reader.specs.RawGame.{IsProbability}
+use Rattle.efg_reader.proofs.builder.fracs_of.Given as goal
+
+abbrev pub invariant-loop-number : goal.invariant-loop-number
+invariant-loop-number l = record { count : length l.fracs ≡ l.number-index; parts : All IsProbability l.fracs }
