@@ -33,7 +33,7 @@ pub use lines::read_lines;
 pub use node_line::{ActLine, ActLines, LineKind, NodeLine, PayWords};
 pub use one_node::first_form;
 pub use raw_file::RawFile;
-pub use raw_game::{FracList, RawGame, RawNode, Shape};
+pub use raw_game::{FracList, RawGame, RawNode, RawParts, Shape};
 pub use refusal::FileRefusal;
 
 #[cfg(test)]

@@ -75,6 +75,14 @@ pub struct RawNode {
     pub two: Frac,
 }
 
+/// The nodes of a game in file order, and the sets of each player.
+#[derive(Debug, Drop)]
+pub struct RawParts {
+    pub nodes: Vec<RawNode>,
+    pub one: Vec<SetInfo>,
+    pub two: Vec<SetInfo>,
+}
+
 /// A game as its file says, before payoffs are summed along paths and scaled.
 #[derive(Debug, Drop)]
 pub struct RawGame {
@@ -112,8 +120,22 @@ impl RawGame {
     pub fn node(&self, n: u32) -> &RawNode
         requires { n < length self.now.nodes }
         ensures item { slice_get self.now.nodes n ≡ Some result.now }
+        ensures rules { IsRawGame self.now }
     {
         &self.nodes[n as usize]
+    }
+
+    /// The nodes and the sets, to be taken over.
+    pub fn into_parts(self) -> RawParts
+        ensures nodes { result.nodes.items ≡ self.nodes }
+        ensures one { result.one.items ≡ self.one }
+        ensures two { result.two.items ≡ self.two }
+    {
+        RawParts {
+            nodes: self.nodes,
+            one: self.one,
+            two: self.two,
+        }
     }
 
     /// The number of a player's sets.
