@@ -1,0 +1,9 @@
+pub mod Chances
+pub mod LeastMultiples
+pub mod Multiples
+pub mod Weighted
+pub mod Paid
+pub mod ScaledNodes
+pub mod CommonScale
+pub mod SameTree
+pub mod RawTree

@@ -1,0 +1,5 @@
+pub mod Amounts
+pub mod Paths
+pub mod Refusal
+pub mod Scales
+pub mod Tree

@@ -1,0 +1,15 @@
+//! A game with whole amounts, of one whose payoffs are fractions along the paths of its tree.
+//!
+//! It stands on the raw game of `efg_reader`, the fractions of `corr_num` and the game of `corr_game`. A leaf's amount is
+//! the probability of its path times the sum of a player's payoffs on it, times the player's scale: the least number
+//! that makes all of these whole. The layer above uses `scale` alone.
+#![tactic(auto)]
+
+mod amounts;
+mod paths;
+mod refusal;
+mod scales;
+mod scaling;
+
+pub use refusal::ScaleRefusal;
+pub use scaling::scale;
