@@ -2,19 +2,33 @@
 use Rattle.std.specs.Prelude.{◌≡◌, ℕ, ◌^◌, ◌<◌, ◌≤◌, List, length}
 use Rattle.corr_game.specs.declared.payoffs.Pay.{Pay}
 use Rattle.efg_reader.specs.FirstForm.{HasFirstForm}
+use Rattle.report_form.specs.declared.refusals.Refusal.{Refusal}
+use Rattle.report_form.specs.declared.reports.Report.{Report}
+use Rattle.report_form.specs.Ranges.{IsReport}
+use Rattle.report_text.specs.RefusalText.{refusal_text}
+use Rattle.report_text.specs.ReportText.{report_text}
+use Rattle.corr_run.specs.declared.commands.Notions.{Notions}
 use Rattle.corr_run.specs.declared.status.Status.{Status}
 use Rattle.corr_run.specs.declared.status.Status.TheVariants.{Solved, Refused, Usage}
-use Rattle.corr_run.specs.Lines.{usage_line, too_long_line, not_built_line}
+use Rattle.corr_run.specs.Lines.{usage_line, too_long_line}
 use Rattle.corr_run.specs.OneNode.{one_node_report}
-use Rattle.corr_run.specs.Words.{IsSolve}
+use Rattle.corr_run.specs.Refusals.{IsOfInput}
+use Rattle.corr_run.specs.Reports.{AreBlocksOf, HasStatus}
+use Rattle.corr_run.specs.Words.{MeansSolve, MeansNothing}
 
--- the text and the status that `solve` gives to its input
-pub data SolveAnswer (input text : List ℕ) (status : Status) : Type 0 where
-  too_long : 2 ^ 22 < length input → text ≡ too_long_line → status ≡ Refused → SolveAnswer input text status
-  not_built : length input ≤ 2 ^ 22 → ((pay : Pay) → HasFirstForm input pay → ⊥) → text ≡ not_built_line → status ≡ Refused → SolveAnswer input text status
-  solved : length input ≤ 2 ^ 22 → (pay : Pay) → HasFirstForm input pay → text ≡ one_node_report pay → status ≡ Solved → SolveAnswer input text status
+-- the input isn't too long, and isn't a file of one terminal node with two amounts
+pub record IsGeneral (input : List ℕ) : Type 0 where
+  pub short : length input ≤ 2 ^ 22
+  pub other : (pay : Pay) → HasFirstForm input pay → ⊥
+
+-- the text and the status that `solve` gives to its input, with the blocks of the selected notions
+pub data SolveAnswer (notions : Notions) (input text : List ℕ) (status : Status) : Type 0 where
+  too_long : 2 ^ 22 < length input → text ≡ too_long_line → status ≡ Refused → SolveAnswer notions input text status
+  one_node : length input ≤ 2 ^ 22 → (pay : Pay) → HasFirstForm input pay → text ≡ one_node_report notions pay → status ≡ Solved → SolveAnswer notions input text status
+  refused : IsGeneral input → (refusal : Refusal) → IsOfInput refusal → text ≡ refusal_text refusal → status ≡ Refused → SolveAnswer notions input text status
+  reported : IsGeneral input → (report : Report) → IsReport report → AreBlocksOf notions report.blocks → text ≡ report_text report → HasStatus report.blocks status → SolveAnswer notions input text status
 
 -- the text and the status that the words and the input give
 pub data Answer (words : List (List ℕ)) (input text : List ℕ) (status : Status) : Type 0 where
-  no_command : (IsSolve words → ⊥) → text ≡ usage_line → status ≡ Usage → Answer words input text status
-  solve : IsSolve words → SolveAnswer input text status → Answer words input text status
+  no_command : MeansNothing words → text ≡ usage_line → status ≡ Usage → Answer words input text status
+  solve : (notions : Notions) → MeansSolve words notions → SolveAnswer notions input text status → Answer words input text status

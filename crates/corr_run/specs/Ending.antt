@@ -3,12 +3,13 @@ use Rattle.std.specs.Prelude.{◌≡◌, ℕ, List, Option, None, Some, ⊤}
 use Rattle.std.specs.Io.KnownBytes.{Appends, Keeps}
 use Rattle.corr_port.specs.Known.{AppendsFront}
 use Rattle.corr_run.specs.declared.status.Status.{Status}
-use Rattle.corr_run.specs.declared.status.Status.TheVariants.{Solved, Refused, Usage, NoMemory, ReadFault, WriteFault}
+use Rattle.corr_run.specs.declared.status.Status.TheVariants.{Solved, Refused, TooWide, Usage, NoMemory, ReadFault, WriteFault}
 
 -- the status goes with a text that was written whole
 abbrev pub IsWhole : Status → Type 0
 IsWhole Solved = ⊤
 IsWhole Refused = ⊤
+IsWhole TooWide = ⊤
 IsWhole Usage = ⊤
 IsWhole NoMemory = ⊥
 IsWhole ReadFault = ⊥

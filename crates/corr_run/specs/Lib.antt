@@ -4,4 +4,7 @@ pub mod ExitNumber
 pub mod Input
 pub mod Lines
 pub mod OneNode
+pub mod Refusals
+pub mod Reports
+pub mod Selection
 pub mod Words

@@ -6,6 +6,3 @@ usage_line = codes "usage: corr solve|check|gen|work [--notion efce|efcce|nfcce]
 
 unfoldable pub too_long_line : List ℕ
 too_long_line = codes "refused InputTooLong 4194304\n"
-
-unfoldable pub not_built_line : List ℕ
-not_built_line = codes "refused NotBuilt\n"

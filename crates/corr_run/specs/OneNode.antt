@@ -1,10 +1,11 @@
 -- The report of a game whose only node is terminal. Its polygon under each notion is the one point of its payoffs: every
 -- direction is met by that corner, and the multiplier of the total row is the payoff (von Stengel and Forges 2008).
-use Rattle.std.specs.Prelude.{ℕ, ℤ, List, [], ◌++◌, codes}
+use Rattle.std.specs.Prelude.{ℕ, ℤ, Bool, true, false, List, [], ◌++◌, codes}
 use Rattle.std.specs.Fmt.{signed_decimal}
 use Rattle.corr_game.specs.declared.notions.Notion.{Notion}
 use Rattle.corr_game.specs.declared.notions.Notion.TheVariants.{Efce, Efcce, Nfcce}
 use Rattle.corr_game.specs.declared.payoffs.Pay.{Pay}
+use Rattle.corr_run.specs.declared.commands.Notions.{Notions}
 
 unfoldable pub notion_name : Notion → List ℕ
 notion_name Efce = codes "efce"
@@ -38,5 +39,10 @@ sides notion pay = side (codes "1 0") notion pay ++ side (codes "0 1") notion pa
 unfoldable pub block : Notion → Pay → List ℕ
 block notion pay = codes "notion " ++ notion_name notion ++ codes " found\ncorners 1\n" ++ corner pay ++ codes "sides 4\n" ++ sides notion pay
 
-unfoldable pub one_node_report : Pay → List ℕ
-one_node_report pay = codes "corr-report 1\nscale 1 1\n" ++ block Efce pay ++ block Efcce pay ++ block Nfcce pay ++ codes "end\n"
+-- the block where its notion is selected
+unfoldable pub block_if : Bool → Notion → Pay → List ℕ
+block_if false notion pay = []
+block_if true notion pay = block notion pay
+
+unfoldable pub one_node_report : Notions → Pay → List ℕ
+one_node_report notions pay = codes "corr-report 1\nscale 1 1\n" ++ block_if notions.efce Efce pay ++ block_if notions.efcce Efcce pay ++ block_if notions.nfcce Nfcce pay ++ codes "end\n"

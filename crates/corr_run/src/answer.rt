@@ -1,10 +1,18 @@
 // The answer to an input: a whole text and a status.
-ghost use Rattle.std.specs.Prelude.{◌≡◌, ◌+◌, ◌<◌, ◌≤◌, IfOk, length};
-ghost use Rattle.corr_run.specs.Answer.{SolveAnswer};
+ghost use Rattle.std.specs.Prelude.{◌≡◌, true, false, IfOk};
+ghost use Rattle.corr_run.specs.Answer.{IsGeneral, SolveAnswer};
+ghost use Rattle.report_text.specs.ReportText.{report_text};
+ghost use Rattle.corr_run.specs.Reports.{HasStatus, NoneTooWide};
+ghost use Rattle.corr_run.specs.Selection.{SelectsSome};
 
 use crate::Status;
+use crate::commands::Notions;
 use crate::one_node::report_of;
+use crate::solving::solve_file;
 use efg_reader::first_form;
+use either::{Left, Right};
+use report_form::{Block, BlockList, Report};
+use report_text::{write_refusal, write_report};
 use std::alloc::{AllocError, Global};
 
 /// How many bytes `solve` reads.
@@ -17,9 +25,56 @@ pub struct Answer {
     pub status: Status,
 }
 
+/// Whether a block names a tableau that is too wide.
+fn some_too_wide(blocks: &BlockList) -> bool
+    ensures none { result ≡ false → NoneTooWide blocks.now }
+    ensures some { result ≡ true → NoneTooWide blocks.now → ⊥ }
+{
+    for k in 0..blocks.len() {
+        if let Block::TooWide { .. } = blocks.at(k).block {
+            return true;
+        }
+    }
+    false
+}
+
+/// The report's text, with the status that its blocks give.
+fn report_answer(alloc: Global, report: &Report) -> Result<Answer, AllocError>
+    ensures text { IfOk result (λ answer. answer.text.items ≡ report_text report.now) }
+    ensures status { IfOk result (λ answer. HasStatus report.now.blocks answer.status) }
+{
+    let text = write_report(alloc, report)?;
+    if some_too_wide(&report.blocks) {
+        return Ok(Answer {
+            text,
+            status: Status::TooWide,
+        });
+    }
+    Ok(Answer {
+        text,
+        status: Status::Solved,
+    })
+}
+
+/// What `solve` answers to an input that isn't too long and isn't of the first form.
+fn general_answer(alloc: Global, input: &[u8], notions: Notions) -> Result<Answer, AllocError>
+    requires general { IsGeneral input.now }
+    requires some { SelectsSome notions }
+    ensures { IfOk result (λ answer. SolveAnswer notions input.now answer.text.items answer.status) }
+{
+    match solve_file(alloc, input, notions)? {
+        Left(refusal) => Ok(Answer {
+            text: write_refusal(alloc, &refusal)?,
+            status: Status::Refused,
+        }),
+        Right(report) => report_answer(alloc, &report),
+    }
+}
+
 /// What `solve` answers to the input, of which more than the limit may be given or missing.
-pub fn solve_answer(alloc: Global, input: &[u8]) -> Result<Answer, AllocError>
-    ensures { IfOk result (λ answer. SolveAnswer input.now answer.text.items answer.status) }
+pub fn solve_answer(alloc: Global, input: &[u8], notions: Notions) -> Result<Answer, AllocError>
+    requires { SelectsSome notions }
+    ensures { IfOk result (λ answer. SolveAnswer notions input.now answer.text.items answer.status) }
 {
     if input.len() > SOLVE_LIMIT {
         return Ok(Answer {
@@ -28,13 +83,10 @@ pub fn solve_answer(alloc: Global, input: &[u8]) -> Result<Answer, AllocError>
         });
     }
     match first_form(input) {
-        None => Ok(Answer {
-            text: Vec::from_slice(alloc, b"refused NotBuilt\n")?,
-            status: Status::Refused,
-        }),
         Some(pay) => Ok(Answer {
-            text: report_of(alloc, &pay)?,
+            text: report_of(alloc, &pay, notions)?,
             status: Status::Solved,
         }),
+        None => general_answer(alloc, input, notions),
     }
 }

@@ -1,10 +1,12 @@
-// The commands, and the words that mean them.
-ghost use Rattle.std.specs.Prelude.{◌≡◌, ◌⊎◌, ℕ, true, MatchOption, map, string_bytes};
-ghost use Rattle.corr_run.specs.Words.{MeansSolve, MeansNothing};
+// The words that mean a command.
+ghost use Rattle.std.specs.Prelude.{◌≡◌, ◌↔◌, IsTrue, map, MatchOption, string_bytes};
+ghost use Rattle.corr_game.specs.declared.notions.Notion.{Notion};
+ghost use Rattle.report_text.specs.NameText.{notion_name};
+ghost use Rattle.corr_run.specs.Words.{Means, MeansNothing, IsNoName};
 
 use corr_game::Notion;
 
-/// The notions that are selected, at least one.
+/// Which notions are selected.
 #[derive(Clone, Copy, Debug, PartialEq, Eq)]
 pub struct Notions {
     pub efce: bool,
@@ -15,12 +17,16 @@ pub struct Notions {
 /// What the words ask for.
 #[derive(Clone, Copy, Debug, PartialEq, Eq)]
 pub enum Command {
-    /// The polygons of the game that is read.
+    /// The polygons of a game under these notions.
     Solve { notions: Notions },
 }
 
 impl Notions {
-    fn all() -> Notions {
+    ghost use Rattle.corr_run.specs.Selection.{all_notions, only_notion};
+
+    pub fn all() -> Notions
+        ensures { result ≡ all_notions }
+    {
         Notions {
             efce: true,
             efcce: true,
@@ -28,11 +34,58 @@ impl Notions {
         }
     }
 
-    fn only(notion: Notion) -> Notions {
+    pub fn only(notion: Notion) -> Notions
+        ensures { result ≡ only_notion notion }
+    {
         Notions {
             efce: notion == Notion::Efce,
             efcce: notion == Notion::Efcce,
             nfcce: notion == Notion::Nfcce,
         }
     }
+}
+
+fn is_text(word: &String, text: &[u8]) -> bool
+    ensures { IsTrue result ↔ (string_bytes word.now ≡ text.now) }
+{
+    word.as_bytes() == text
+}
+
+/// The notion with this name.
+fn notion_of(name: &String) -> Option<Notion>
+    ensures { MatchOption result (IsNoName (string_bytes name.now)) (λ notion. string_bytes name.now ≡ notion_name notion) }
+{
+    if is_text(name, b"efce") {
+        return Some(Notion::Efce);
+    }
+    if is_text(name, b"efcce") {
+        return Some(Notion::Efcce);
+    }
+    if is_text(name, b"nfcce") {
+        return Some(Notion::Nfcce);
+    }
+    None
+}
+
+/// What the words behind the program's name mean, or none where they mean no command.
+pub fn read_words(words: &Vec<String>) -> Option<Command>
+    ensures { MatchOption result (MeansNothing (map string_bytes words.now.items)) (Means (map string_bytes words.now.items)) }
+{
+    if words.is_empty() || !is_text(&words[0], b"solve") {
+        return None;
+    }
+    if words.len() == 1 {
+        return Some(Command::Solve {
+            notions: Notions::all(),
+        });
+    }
+    if words.len() != 3 || !is_text(&words[1], b"--notion") {
+        return None;
+    }
+    let Some(notion) = notion_of(&words[2]) else {
+        return None;
+    };
+    Some(Command::Solve {
+        notions: Notions::only(notion),
+    })
 }

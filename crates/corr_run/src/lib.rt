@@ -5,11 +5,16 @@
 #![tactic(auto)]
 
 mod answer;
+mod commands;
 mod input;
 mod one_node;
+mod prepare;
+mod solving;
 mod status;
 mod top;
 
+pub use commands::{Command, Notions};
+pub use prepare::{Ready, ReadyEnd};
 pub use status::Status;
 pub use top::run;
 

@@ -1,8 +1,9 @@
 // The report of a game whose only node is terminal.
 ghost use Rattle.std.specs.Prelude.{◌≡◌, OnOk, IfOk};
 ghost use Rattle.text_pieces.specs.Piece.{Adds};
-ghost use Rattle.corr_run.specs.OneNode.{notion_name, further_multipliers, corner, multipliers, side, sides, block, one_node_report};
+ghost use Rattle.corr_run.specs.OneNode.{notion_name, further_multipliers, corner, multipliers, side, sides, block, block_if, one_node_report};
 
+use crate::commands::Notions;
 use corr_game::{Notion, Pay};
 use std::alloc::{AllocError, Global};
 use text_pieces::{add_bytes, add_number};
@@ -92,15 +93,32 @@ fn add_block(out: &mut Vec<u8>, notion: Notion, pay: &Pay) -> Result<(), AllocEr
     Ok(())
 }
 
-/// The whole report of the game whose only leaf pays so, with the blocks of all three notions.
-pub fn report_of(alloc: Global, pay: &Pay) -> Result<Vec<u8>, AllocError>
-    ensures { IfOk result (λ text. text.items ≡ one_node_report pay.now) }
+/// Adds the block of a notion where it is selected.
+fn add_selected(
+    out: &mut Vec<u8>,
+    is_selected: bool,
+    notion: Notion,
+    pay: &Pay,
+) -> Result<(), AllocError>
+    ensures { OnOk result (Adds out.old.items out.new.items (block_if is_selected notion pay.now)) }
+{
+    if !is_selected {
+        add_bytes(out, b"")?;
+        return Ok(());
+    }
+    add_block(out, notion, pay)?;
+    Ok(())
+}
+
+/// The whole report of the game whose only leaf pays so, with the blocks of the selected notions.
+pub fn report_of(alloc: Global, pay: &Pay, notions: Notions) -> Result<Vec<u8>, AllocError>
+    ensures { IfOk result (λ text. text.items ≡ one_node_report notions pay.now) }
 {
     let mut out = Vec::new(alloc);
     add_bytes(&mut out, b"corr-report 1\nscale 1 1\n")?;
-    add_block(&mut out, Notion::Efce, pay)?;
-    add_block(&mut out, Notion::Efcce, pay)?;
-    add_block(&mut out, Notion::Nfcce, pay)?;
+    add_selected(&mut out, notions.efce, Notion::Efce, pay)?;
+    add_selected(&mut out, notions.efcce, Notion::Efcce, pay)?;
+    add_selected(&mut out, notions.nfcce, Notion::Nfcce, pay)?;
     add_bytes(&mut out, b"end\n")?;
     Ok(out)
 }

@@ -4,10 +4,12 @@ ghost use Rattle.std.specs.Prelude.{◌≡◌, ℕ};
 /// How a run ended.
 #[derive(Clone, Copy, Debug, PartialEq, Eq)]
 pub enum Status {
-    /// A report was written.
+    /// A report was written, and each of its blocks is whole.
     Solved,
     /// The input was refused, and the line that says why was written.
     Refused,
+    /// A report was written, in which some block names a tableau that is too wide.
+    TooWide,
     /// The words mean no command, and the usage line was written.
     Usage,
     /// Memory was wanting.
@@ -28,6 +30,7 @@ impl Status {
         match self {
             Status::Solved => 0,
             Status::Refused => 2,
+            Status::TooWide => 3,
             Status::Usage => 64,
             Status::NoMemory => 70,
             Status::ReadFault => 72,

@@ -1,13 +1,14 @@
 // The top call: words and a source in, a text to the sink and a status out.
-ghost use Rattle.std.specs.Prelude.{◌≡◌, ◌≢◌, ℕ, ◌+◌, ◌^◌, ◌≤◌, ◌↔◌, map, IsTrue, string_bytes};
+ghost use Rattle.std.specs.Prelude.{◌≡◌, ◌≢◌, ℕ, ◌+◌, ◌^◌, ◌≤◌, map, string_bytes};
 ghost use Rattle.corr_port.specs.Count.{Rose};
 ghost use Rattle.corr_run.specs.Answer.{Answer, SolveAnswer};
 ghost use Rattle.corr_run.specs.Ending.{IsWhole, Writes, Ends};
 ghost use Rattle.corr_run.specs.Input.{TakesAtMost};
-ghost use Rattle.corr_run.specs.Words.{IsSolve};
+ghost use Rattle.corr_run.specs.Selection.{SelectsSome};
 
 use crate::Status;
 use crate::answer::{SOLVE_LIMIT, solve_answer};
+use crate::commands::{Command, Notions, read_words};
 use crate::input::{InputEnd, read_input};
 use corr_port::{PutEnd, Sink, Source, put_all};
 use std::alloc::Global;
@@ -15,12 +16,6 @@ use std::alloc::Global;
 // The line for words that mean no command.
 const USAGE: &[u8] =
     b"usage: corr solve|check|gen|work [--notion efce|efcce|nfcce] [--kind public|dilemma|chain] [--n N] [--seed N]\n";
-
-fn is_solve(words: &Vec<String>) -> bool
-    ensures { IsTrue result ↔ IsSolve (map string_bytes words.now.items) }
-{
-    words.len() == 1 && words[0].as_str() == "solve"
-}
 
 // Puts the whole text. The status is the one given, unless the sink fails or lacks memory.
 fn write_whole<K: Sink>(out: &mut K, text: &[u8], status: Status) -> Status
@@ -38,8 +33,9 @@ fn write_whole<K: Sink>(out: &mut K, text: &[u8], status: Status) -> Status
     }
 }
 
-fn solve<S: Source, K: Sink>(alloc: Global, src: &mut S, out: &mut K) -> Status
-    ensures ends { Ends SolveAnswer (S.left src.old) (K.held out.old) (K.held out.new) result }
+fn solve<S: Source, K: Sink>(alloc: Global, notions: Notions, src: &mut S, out: &mut K) -> Status
+    requires { SelectsSome notions }
+    ensures ends { Ends (SolveAnswer notions) (S.left src.old) (K.held out.old) (K.held out.new) result }
     ensures not_usage { result ≢ Status.Usage }
     ensures taken { TakesAtMost (2 ^ 22 + 1) (S.left src.old) (S.left src.new) }
     ensures read_cause { result ≡ Status.ReadFault → Rose (S.faults src.old) (S.faults src.new) }
@@ -52,7 +48,7 @@ fn solve<S: Source, K: Sink>(alloc: Global, src: &mut S, out: &mut K) -> Status
         Err(InputEnd::Unread) => return Status::ReadFault,
         Err(InputEnd::NoMemory) => return Status::NoMemory,
     };
-    match solve_answer(alloc, input.as_slice()) {
+    match solve_answer(alloc, input.as_slice(), notions) {
         Ok(answer) => write_whole(out, answer.text.as_slice(), answer.status),
         Err(_) => Status::NoMemory,
     }
@@ -78,8 +74,8 @@ pub fn run<S: Source, K: Sink>(
     ensures source_count { S.faults src.old ≤ S.faults src.new }
     ensures sink_count { K.faults out.old ≤ K.faults out.new }
 {
-    if !is_solve(words) {
-        return write_whole(out, USAGE, Status::Usage);
+    match read_words(words) {
+        None => write_whole(out, USAGE, Status::Usage),
+        Some(Command::Solve { notions }) => solve(alloc, notions, src, out),
     }
-    solve(alloc, src, out)
 }

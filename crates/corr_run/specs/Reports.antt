@@ -1,0 +1,48 @@
+-- Reports on a file, by the notions that were selected.
+use Rattle.std.specs.Prelude.{◌≡◌, ◌⊎◌, ℕ, ◌≤◌, Bool, true, false, List, [], ◌∷◌, map, All}
+use Rattle.corr_game.specs.declared.notions.Notion.{Notion}
+use Rattle.corr_game.specs.Game.{GameView}
+use Rattle.connected_pairs.specs.Connected.{PairsView}
+use Rattle.incentive_rows.specs.Size.{HasSize}
+use Rattle.report_form.specs.declared.reports.Block.{Block}
+use Rattle.report_form.specs.declared.reports.Block.TheVariants.{Found, Empty, TooWide}
+use Rattle.report_form.specs.declared.reports.NamedBlock.{NamedBlock}
+use Rattle.report_form.specs.Ranges.{IsBlock}
+use Rattle.corr_run.specs.declared.commands.Notions.{Notions}
+use Rattle.corr_run.specs.declared.status.Status.{Status}
+use Rattle.corr_run.specs.declared.status.Status.TheVariants as status
+use Rattle.corr_run.specs.Selection.{selected, selects}
+
+-- a notion's program has at most 2048 rows and 8192 columns
+abbrev pub FitsProgram : GameView → PairsView → Notion → Type 0
+FitsProgram g p notion = (rows columns : ℕ) × HasSize g p notion rows columns × (rows ≤ 2048) × (columns ≤ 8192)
+
+-- so has that of each selected notion
+abbrev pub FitPrograms : GameView → PairsView → Notions → Type 0
+FitPrograms g p notions = (notion : Notion) → selects notions notion ≡ true → FitsProgram g p notion
+
+-- the notions of blocks
+abbrev pub notions_of : List NamedBlock → List Notion
+notions_of blocks = map (λ (named : NamedBlock). named.notion) blocks
+
+-- the numbers of each block are in their ranges
+abbrev pub AreWhole : List NamedBlock → Type 0
+AreWhole blocks = All (λ (named : NamedBlock). IsBlock named.block) blocks
+
+-- the blocks are those of the selected notions, in order
+abbrev pub AreBlocksOf : Notions → List NamedBlock → Type 0
+AreBlocksOf notions blocks = notions_of blocks ≡ selected notions
+
+-- whether a block says that a tableau is too wide
+abbrev pub is_too_wide : Block → Bool
+is_too_wide (Found corners sides) = false
+is_too_wide (Empty multipliers) = false
+is_too_wide (TooWide basis place) = true
+
+-- no block says so
+abbrev pub NoneTooWide : List NamedBlock → Type 0
+NoneTooWide blocks = All (λ (named : NamedBlock). is_too_wide named.block ≡ false) blocks
+
+-- the status of a report with these blocks
+abbrev pub HasStatus : List NamedBlock → Status → Type 0
+HasStatus blocks ended = (NoneTooWide blocks × (ended ≡ status.Solved)) ⊎ ((NoneTooWide blocks → ⊥) × (ended ≡ status.TooWide))
