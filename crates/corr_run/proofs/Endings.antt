@@ -4,9 +4,10 @@ use Rattle.std.proofs.lemmas.Bool.{cases_lt}
 use Rattle.std.specs.declared.option.Option.{Option}
 use Rattle.std.proofs.KnownBytes.{Keeps-refl, Consumes-all}
 use Rattle.std.specs.Io.KnownBytes.{Consumes, IsAtEnd, Keeps}
+use Rattle.corr_run.specs.declared.commands.Notions.{Notions}
 use Rattle.corr_run.specs.declared.status.Status.{Status}
 use Rattle.corr_run.specs.declared.status.Status.TheVariants.{ReadFault, NoMemory}
-use Rattle.corr_run.specs.Answer.{SolveAnswer, too_long, not_built, solved}
+use Rattle.corr_run.specs.Answer.{SolveAnswer, too_long, one_node, refused, reported}
 use Rattle.corr_run.specs.Ending.{Ending, written, unread, no_memory, IsKnown, Ends, Writes}
 
 -- what a source had left is what it gave and what it has left now, where it tells
@@ -71,7 +72,8 @@ pub ends_of : {P Q : List ℕ → List ℕ → Status → Type 0} {left before a
 ends_of f ends = record { input = ends.input; known = ends.known; ending = ending_of (f ends.input) ends.ending }
 
 -- what is too long stays so in a longer input
-pub too_long_still : {bytes input text : List ℕ} {kind : Status} → 2 ^ 22 < length bytes → 2 ^ 22 < length input → SolveAnswer bytes text kind → SolveAnswer input text kind
+pub too_long_still : {notions : Notions} {bytes input text : List ℕ} {kind : Status} → 2 ^ 22 < length bytes → 2 ^ 22 < length input → SolveAnswer notions bytes text kind → SolveAnswer notions input text kind
 too_long_still long longer (too_long h is_text is_status) = too_long longer is_text is_status
-too_long_still long longer (not_built h no_form is_text is_status) = absurd (omega arith)
-too_long_still long longer (solved h pay form is_text is_status) = absurd (omega arith)
+too_long_still long longer (one_node h pay form is_text is_status) = absurd (omega arith)
+too_long_still long longer (refused general refusal of_input is_text is_status) = absurd (omega (arith, general.short))
+too_long_still long longer (reported general report ranges blocks is_text has_status) = absurd (omega (arith, general.short))

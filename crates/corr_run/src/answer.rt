@@ -67,7 +67,10 @@ fn general_answer(alloc: Global, input: &[u8], notions: Notions) -> Result<Answe
             text: write_refusal(alloc, &refusal)?,
             status: Status::Refused,
         }),
-        Right(report) => report_answer(alloc, &report),
+        Right(report) => {
+            let answer = report_answer(alloc, &report)?;
+            Ok(answer)
+        }
     }
 }
 

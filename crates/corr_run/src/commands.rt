@@ -2,7 +2,7 @@
 ghost use Rattle.std.specs.Prelude.{◌≡◌, ◌↔◌, IsTrue, map, MatchOption, string_bytes};
 ghost use Rattle.corr_game.specs.declared.notions.Notion.{Notion};
 ghost use Rattle.report_text.specs.NameText.{notion_name};
-ghost use Rattle.corr_run.specs.Words.{Means, MeansNothing, IsNoName};
+ghost use Rattle.corr_run.specs.Words.{MeansNothing, MeansSolve, IsNoName};
 
 use corr_game::Notion;
 
@@ -12,13 +12,6 @@ pub struct Notions {
     pub efce: bool,
     pub efcce: bool,
     pub nfcce: bool,
-}
-
-/// What the words ask for.
-#[derive(Clone, Copy, Debug, PartialEq, Eq)]
-pub enum Command {
-    /// The polygons of a game under these notions.
-    Solve { notions: Notions },
 }
 
 impl Notions {
@@ -67,25 +60,27 @@ fn notion_of(name: &String) -> Option<Notion>
     None
 }
 
-/// What the words behind the program's name mean, or none where they mean no command.
-pub fn read_words(words: &Vec<String>) -> Option<Command>
-    ensures { MatchOption result (MeansNothing (map string_bytes words.now.items)) (Means (map string_bytes words.now.items)) }
+/// The notions for which the words behind the program's name ask for a solution, or none where they mean no command.
+pub fn read_words(words: &Vec<String>) -> Option<Notions>
+    ensures { MatchOption result (MeansNothing (map string_bytes words.now.items)) (MeansSolve (map string_bytes words.now.items)) }
 {
-    if words.is_empty() || !is_text(&words[0], b"solve") {
+    if words.is_empty() {
+        return None;
+    }
+    if !is_text(&words[0], b"solve") {
         return None;
     }
     if words.len() == 1 {
-        return Some(Command::Solve {
-            notions: Notions::all(),
-        });
+        return Some(Notions::all());
     }
-    if words.len() != 3 || !is_text(&words[1], b"--notion") {
+    if words.len() != 3 {
+        return None;
+    }
+    if !is_text(&words[1], b"--notion") {
         return None;
     }
     let Some(notion) = notion_of(&words[2]) else {
         return None;
     };
-    Some(Command::Solve {
-        notions: Notions::only(notion),
-    })
+    Some(Notions::only(notion))
 }

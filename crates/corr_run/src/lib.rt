@@ -13,7 +13,7 @@ mod solving;
 mod status;
 mod top;
 
-pub use commands::{Command, Notions};
+pub use commands::Notions;
 pub use prepare::{Ready, ReadyEnd};
 pub use status::Status;
 pub use top::run;

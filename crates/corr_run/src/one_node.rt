@@ -103,7 +103,6 @@ fn add_selected(
     ensures { OnOk result (Adds out.old.items out.new.items (block_if is_selected notion pay.now)) }
 {
     if !is_selected {
-        add_bytes(out, b"")?;
         return Ok(());
     }
     add_block(out, notion, pay)?;

@@ -8,7 +8,7 @@ ghost use Rattle.corr_run.specs.Selection.{SelectsSome};
 
 use crate::Status;
 use crate::answer::{SOLVE_LIMIT, solve_answer};
-use crate::commands::{Command, Notions, read_words};
+use crate::commands::{Notions, read_words};
 use crate::input::{InputEnd, read_input};
 use corr_port::{PutEnd, Sink, Source, put_all};
 use std::alloc::Global;
@@ -76,6 +76,6 @@ pub fn run<S: Source, K: Sink>(
 {
     match read_words(words) {
         None => write_whole(out, USAGE, Status::Usage),
-        Some(Command::Solve { notions }) => solve(alloc, notions, src, out),
+        Some(notions) => solve(alloc, notions, src, out),
     }
 }

@@ -5,4 +5,4 @@ use Rattle.corr_run.proofs.one_node.report_of.Goals as goal
 pub returns : goal.returns
 unfolding one_node_report
 returns c =
-    Adds-first c.new-out.ensures.items (Adds-join (Adds-join (Adds-join (Adds-join c.in_ok-add_bytes.ensures.ok c.in_ok-add_block.ensures) c.in_ok-add_block-2.ensures) c.in_ok-add_block-3.ensures) c.in_ok-add_bytes-2.ensures.ok)
+    Adds-first c.new-out.ensures.items (Adds-join (Adds-join (Adds-join (Adds-join c.in_ok-add_bytes.ensures.ok c.in_ok-add_selected.ensures) c.in_ok-add_selected-2.ensures) c.in_ok-add_selected-3.ensures) c.in_ok-add_bytes-2.ensures.ok)

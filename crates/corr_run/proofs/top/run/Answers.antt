@@ -1,12 +1,20 @@
-use Rattle.std.proofs.Common.{◌≡◌, refl, map}
+use Rattle.std.proofs.Common.{refl}
 use Rattle.corr_run.specs.Answer.{Answer, no_command, solve}
 use Rattle.corr_run.specs.Lines.{usage_line}
 use Rattle.corr_run.proofs.Endings.{ends_at_once, ends_of}
+use Rattle.corr_run.proofs.Words.{means_some}
 use Rattle.corr_run.proofs.top.run.Goals as goal
 
-pub returns-then-not-is_solve-clause-ends : goal.returns-then-not-is_solve-clause-ends
+pub returns-in-None-clause-ends : goal.returns-in-None-clause-ends
 unfolding usage_line
-returns-then-not-is_solve-clause-ends g c = ends_at_once (Answer _) _ _ _ _ _ _ (λ input. no_command (λ is. absurd (cc (c.if-not-is_solve.ensures.1 is))) refl refl) c.write_whole.ensures.writes
+returns-in-None-clause-ends g c =
+    let nothing = rw c.in-None.is at c.read_words.ensures in
+    ends_at_once (Answer _) _ _ _ _ _ _ (λ input. no_command nothing refl refl) c.write_whole.ensures.writes
 
-pub returns-clause-ends : goal.returns-clause-ends
-returns-clause-ends g c = ends_of (λ input text kind answer. solve (c.if-not-is_solve.ensures.0 refl) answer) c.solve.ensures.ends
+pub solve-requires : goal.solve-requires
+solve-requires g c = means_some _ _ (rw c.in-Some.is at c.read_words.ensures)
+
+pub returns-in-Some-clause-ends : goal.returns-in-Some-clause-ends
+returns-in-Some-clause-ends g c =
+    let means = rw c.in-Some.is at c.read_words.ensures in
+    ends_of (λ input text kind answer. solve _ means answer) c.solve.ensures.ends

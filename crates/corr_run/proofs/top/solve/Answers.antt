@@ -4,17 +4,17 @@ use Rattle.corr_run.proofs.Endings.{ends_unread, ends_no_memory, ends_written, t
 use Rattle.corr_run.proofs.top.solve.Goals as goal
 
 pub returns-in-Err-Unread-clause-ends : goal.returns-in-Err-Unread-clause-ends
-returns-in-Err-Unread-clause-ends g c = ends_unread SolveAnswer _ _
+returns-in-Err-Unread-clause-ends g c = ends_unread (SolveAnswer c.args.notions) _ _
 
 pub returns-in-Err-NoMemory-clause-ends : goal.returns-in-Err-NoMemory-clause-ends
-returns-in-Err-NoMemory-clause-ends g c = ends_no_memory SolveAnswer _ _
+returns-in-Err-NoMemory-clause-ends g c = ends_no_memory (SolveAnswer c.args.notions) _ _
 
 pub returns-in-Ok-solve_answer-clause-ends : goal.returns-in-Ok-solve_answer-clause-ends
-returns-in-Ok-solve_answer-clause-ends g c = ends_written SolveAnswer _ _ _ _ c.in-Ok.input.items c.in-Ok-solve_answer.answer.text.items c.in-Ok-solve_answer.answer.status _ 4194304 c.in-Ok.ensures.read
+returns-in-Ok-solve_answer-clause-ends g c = ends_written (SolveAnswer c.args.notions) _ _ _ _ c.in-Ok.input.items c.in-Ok-solve_answer.answer.text.items c.in-Ok-solve_answer.answer.status _ 4194304 c.in-Ok.ensures.read
     (λ short. c.in-Ok.ensures.whole (omega (arith, c.in-Ok.input.ok.0)))
     (λ input long longer answer. too_long_still long longer answer)
     (rw c.as_slice.ensures.value at c.in-Ok-solve_answer.ensures)
     (rw c.as_slice-in-Ok-solve_answer.ensures.value at c.write_whole.ensures.writes)
 
 pub returns-clause-ends : goal.returns-clause-ends
-returns-clause-ends g c = ends_no_memory SolveAnswer _ _
+returns-clause-ends g c = ends_no_memory (SolveAnswer c.args.notions) _ _
