@@ -2,6 +2,7 @@ pub mod Again
 pub mod Assembling
 pub mod Depth
 pub mod Found
+pub mod KnownSet
 pub mod Leading
 pub mod OneTree
 pub mod PartLists

@@ -4,7 +4,7 @@ use Rattle.std.proofs.Common.{◌≡◌, ℕ, zero, suc, ◌+◌, ◌<◌, ◌�
 use Rattle.std.specs.Prelude.{All, Result, Ok, Err, IfOk}
 use Rattle.std.proofs.lemmas.List.{append-nil, map-append, length_push, length-map}
 use Rattle.std.proofs.lemmas.List.Elements.{All-nil, All-cons, All-append, All-push, All-weaker}
-use Rattle.std.proofs.lemmas.Option.{none-some, same_Some}
+use Rattle.std.proofs.lemmas.Option.{none-some, same_Some, slice_get_within}
 use Rattle.corr_game.specs.declared.nodes.Node.{Node}
 use Rattle.corr_game.specs.declared.nodes.SetInfo.{SetInfo}
 use Rattle.corr_game.specs.declared.sides.Side.{Side}
@@ -36,13 +36,15 @@ record Grown (old : List (ℕ × FirstList)) (new : List (ℕ × FirstList)) (in
   count : max (length old) (index + 1) ≡ length new
 
 grown : (old : List (ℕ × FirstList)) (set : ℕ) (list : Option FirstList) (new : List (ℕ × FirstList)) (index : ℕ) → set < 2 ^ 31 → IsDefined old set list new index → Grown old new index
-grown old set list new index few (met same within) = record {
-  more = [];
-  new_is = same ∙ sym (append-nil old);
-  numbers = All-nil (λ (entry : ℕ × FirstList). entry.0 < 2 ^ 31);
-  next = omega arith;
-  count = omega (arith, ap (λ (xs : List (ℕ × FirstList)). length xs) same);
-}
+grown old set list new index few (met own same) =
+    let there : index < length old = omega (arith, slice_get_within (map (λ (entry : ℕ × FirstList). entry.0) old) index set own, length-map old (λ (entry : ℕ × FirstList). entry.0)) in
+    record {
+      more = [];
+      new_is = same ∙ sym (append-nil old);
+      numbers = All-nil (λ (entry : ℕ × FirstList). entry.0 < 2 ^ 31);
+      next = omega arith;
+      count = omega (arith, ap (λ (xs : List (ℕ × FirstList)). length xs) same);
+    }
 grown old set list new index few (first own is more at) = record {
   more = (set, own) ∷ [];
   new_is = more;

@@ -19,7 +19,7 @@ info_of entry = record { file = entry.0; actions = length entry.1.acts.now }
 
 -- The index of a line's set: the set is there already, or this line is its first, and it comes last with the line's list.
 pub data IsDefined (old : List (ℕ × FirstList)) (set : ℕ) (list : Option FirstList) (new : List (ℕ × FirstList)) (index : ℕ) : Type 0 where
-  met : new ≡ old → index < length old → IsDefined old set list new index
+  met : slice_get (map (λ (entry : ℕ × FirstList). entry.0) old) index ≡ Some set → new ≡ old → IsDefined old set list new index
   first : (own : FirstList) → list ≡ Some own → new ≡ old ++ (set, own) ∷ [] → index ≡ length old → IsDefined old set list new index
 
 -- a list has a probability for each action

@@ -2,8 +2,9 @@
 //! outcome by `build`. A file is refused by the first rule that it breaks, as `FileRefusal` lists them.
 //!
 //! It stands on the tokens of `efg_token`, the numbers of `corr_num` and the nodes and sets of `corr_game`. The layer
-//! above may use that `Syntax` names exactly the place where the machine of the grammar stops, and that the nodes of a
-//! `RawGame` are one tree in preorder. `first_form` tells the files of one terminal node with whole amounts.
+//! above may use that `Syntax` names exactly the place where the machine of the grammar stops, and that the tree and the
+//! sets of a `RawGame` keep all rules of a game, its chance nodes have a probability for each kid, and its probabilities
+//! and payoffs are within their limits. `first_form` tells the files of one terminal node with whole amounts.
 #![tactic(auto)]
 
 mod amounts;
