@@ -6,5 +6,6 @@ pub mod Lines
 pub mod OneNode
 pub mod Refusals
 pub mod Reports
+pub mod Scaling
 pub mod Selection
 pub mod Words

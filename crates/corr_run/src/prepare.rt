@@ -1,8 +1,11 @@
 // From the bytes of a file to a game that may be solved.
 ghost use Rattle.std.specs.Prelude.{◌≡◌, ◌<◌, ◌≤◌, ◌^◌, length, IfErr, IfOk};
+ghost use Rattle.efg_reader.specs.Machine.{IsAccepted};
 ghost use Rattle.tree_recall.specs.LastMove.{IsRecallOf};
 ghost use Rattle.connected_pairs.specs.Connected.{IsPairsOf};
 ghost use Rattle.triangle_test.specs.Triangle.{IsTriangle};
+ghost use Rattle.triangle_test.specs.declared.triangles.Quad.{Quad as Four};
+ghost use Rattle.corr_run.specs.Scaling.{IsScaledFromSome};
 ghost use Rattle.corr_run.specs.Refusals.{IsOfInput, IsReadyEnd};
 
 use connected_pairs::Pairs;
@@ -99,6 +102,9 @@ fn at_node(name: NodeRule, node: u32) -> ReadyEnd
 pub fn prepare(alloc: Global, bytes: &[u8]) -> Result<Ready, ReadyEnd>
     requires { length bytes.now ≤ 2 ^ 30 }
     ensures ready { IfOk result (λ ready. IsPairsOf ready.game ready.pairs) }
+    ensures no_triangle { IfOk result (λ ready. (quad : Four) → IsTriangle ready.pairs quad → ⊥) }
+    ensures scaled { IfOk result (λ ready. IsScaledFromSome ready.game) }
+    ensures accepted { IfOk result (λ ready. IsAccepted bytes.now) }
     ensures refused { IfErr result IsReadyEnd }
 {
     let raw = build(alloc, read_lines(alloc, bytes)?)?;

@@ -1,6 +1,6 @@
 -- The scale that is common to the leaves before a node: it makes them whole, and divides each number that does. At a leaf
 -- it becomes the least common multiple of it and the denominator in lowest terms.
-use Rattle.std.proofs.Common.{◌≡◌, ℕ, zero, suc, ◌+◌, ◌<◌, ◌≤◌, ◌^◌, ◌⊎◌, inl, inr, ℤ, pos, negsuc, ◌<ℤ◌, ◌≤ℤ◌, List, Some, length, slice_get, refl, ap, sym, subst, ◌∙◌, arith}
+use Rattle.std.proofs.Common.{◌≡◌, ℕ, ◌+◌, ◌<◌, ◌≤◌, ◌^◌, inl, inr, ℤ, pos, negsuc, ◌<ℤ◌, ◌≤ℤ◌, List, Some, length, slice_get, sym, subst, ◌∙◌, arith}
 use Rattle.std.specs.Prelude.{unsigned_abs}
 use Rattle.std.specs.Int.{◌∣◌}
 use Rattle.std.proofs.Math.Nat.{one-dvd}
@@ -12,7 +12,8 @@ use Rattle.corr_num.specs.Fraction.{Fraction, IsReduced}
 use Rattle.corr_game.specs.declared.sides.Side.{Side}
 use Rattle.efg_reader.specs.declared.raw_game.RawNode.{RawNode}
 use Rattle.game_scale.specs.Paths.{PathView, IsPathView, IsLeaf, weighted}
-use Rattle.game_scale.specs.Scales.{MakesWhole, MakesAllWhole, IsLeastScale, IsLcm}
+use Rattle.game_scale.specs.Scales.{MakesWhole, MakesAllWhole, IsLeastScale}
+use Rattle.game_scale.specs.LeastMultiple.{IsLcm}
 use Rattle.game_scale.proofs.Multiples.{den_divides, divided_whole, multiple_whole}
 use Rattle.game_scale.proofs.Weighted.{whole_reduced, whole_weighted}
 

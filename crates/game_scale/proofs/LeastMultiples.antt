@@ -1,11 +1,11 @@
 -- The least common multiple of two numbers is one of them, divided by their greatest common divisor, times the other:
 -- what is left of the two shares no factor.
-use Rattle.std.proofs.Common.{◌≡◌, ℕ, zero, suc, ◌*◌, ◌/◌, ◌<◌, ◌≤◌, refl, sym, ap, subst, ◌∙◌, arith}
+use Rattle.std.proofs.Common.{◌≡◌, ℕ, zero, suc, ◌*◌, ◌/◌, ◌<◌, ◌≤◌, sym, subst, arith}
 use Rattle.std.specs.Int.{IsGcd, ◌∣◌}
 use Rattle.std.proofs.Math.Nat.{mul_comm, mul-dvd-mul_left, mul-div_cancel', dvd_of_mul-dvd-mul_left, dvd-mul_left, dvd-mul_right, pos_of_dvd_of_pos}
 use Rattle.std.proofs.lemmas.Nat.Gcd.{IsGcd-swap, dvd-zero, le_of_dvd}
 use Rattle.corr_num.proofs.CommonDivisors.{IsGcd-divided, dvd_of_coprime}
-use Rattle.game_scale.specs.Scales.{IsLcm}
+use Rattle.game_scale.specs.LeastMultiple.{IsLcm}
 
 coprime_part : (x y t : ℕ) → IsGcd x y 1 → x ∣ t * y → x ∣ t
 coprime_part x y zero h d = dvd-zero x

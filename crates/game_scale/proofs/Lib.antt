@@ -7,3 +7,8 @@ pub mod ScaledNodes
 pub mod CommonScale
 pub mod SameTree
 pub mod RawTree
+pub mod Passing
+pub mod Parents
+pub mod PathsSoFar
+pub mod Refusals
+pub mod ScaledGame

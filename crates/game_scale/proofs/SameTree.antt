@@ -1,6 +1,6 @@
 -- Nodes that differ in what they pay alone are one tree: where subtrees end, the depth of a node and the order of the sets
 -- look at kids and sets alone. By induction on the list of nodes.
-use Rattle.std.proofs.Common.{◌≡◌, ℕ, zero, suc, ◌+◌, ◌<◌, ◌≤◌, ◌^◌, ℤ, pos, ◌≤ℤ◌, List, [], ◌∷◌, Some, Option, Bool, true, false, eqb, length, map, slice_get, refl, ap, sym, subst, ◌∙◌, arith}
+use Rattle.std.proofs.Common.{◌≡◌, ℕ, zero, suc, ◌+◌, ◌≤◌, ◌^◌, ℤ, pos, List, [], ◌∷◌, Some, true, false, eqb, length, map, slice_get, refl, ap, subst, ◌∙◌, arith}
 use Rattle.std.specs.Prelude.{unsigned_abs, All, nat_eq}
 use Rattle.std.specs.List.{IsDistinct}
 use Rattle.std.proofs.lemmas.List.{length-map}
@@ -8,13 +8,12 @@ use Rattle.std.proofs.lemmas.Option.{same_Some}
 use Rattle.corr_game.specs.declared.nodes.Node.{Node}
 use Rattle.corr_game.specs.declared.nodes.Node.TheVariants as node
 use Rattle.corr_game.specs.declared.nodes.SetInfo.{SetInfo}
-use Rattle.corr_game.specs.declared.payoffs.Pay.{Pay}
 use Rattle.corr_game.specs.declared.sides.Side.{Side}
 use Rattle.corr_game.specs.declared.sides.Side.TheVariants.{One, Two}
 use Rattle.corr_game.specs.Game.{GameView, IsGame, IsNode, IsSet, IsScale, sets_of, scale_of}
 use Rattle.corr_game.specs.Node.{kids_of, set_at}
-use Rattle.corr_game.specs.Preorder.{from_last, row_end, InRow, end_of, depth_of}
-use Rattle.corr_game.specs.Sets.{AreInOrder, IsMetOrNext, met_with}
+use Rattle.corr_game.specs.Preorder.{from_last, row_end, end_of, depth_of}
+use Rattle.corr_game.specs.Sets.{AreInOrder, met_with}
 use Rattle.game_scale.specs.Tree.{without_pay}
 
 pub same_kids : (n : Node) → kids_of (without_pay n) ≡ kids_of n

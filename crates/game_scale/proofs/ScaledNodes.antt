@@ -1,9 +1,8 @@
 -- One node more is scaled: the first that is left of the file's nodes goes behind those that are scaled.
-use Rattle.std.proofs.Common.{◌≡◌, ℕ, zero, suc, ◌+◌, ◌<◌, ◌≤◌, get_or, ℤ, List, [], ◌∷◌, ◌++◌, ◌⊎◌, inl, inr, Some, length, map, drop, slice_get, refl, ap, sym, subst, ◌∙◌, arith}
-use Rattle.std.proofs.lemmas.List.{append_assoc, map_push, length_push}
+use Rattle.std.proofs.Common.{◌≡◌, ℕ, zero, suc, ◌+◌, ◌<◌, get_or, ℤ, List, [], ◌∷◌, ◌++◌, ◌⊎◌, inl, inr, Some, length, map, drop, slice_get, refl, ap, sym, subst, ◌∙◌, arith}
+use Rattle.std.proofs.lemmas.List.{append_assoc, map_push}
 use Rattle.std.proofs.lemmas.Option.{slice_get-get_or, same_Some}
 use Rattle.corr_game.specs.declared.nodes.Node.{Node}
-use Rattle.corr_game.specs.declared.nodes.Node.TheVariants as node
 use Rattle.corr_game.specs.declared.sides.Side.{Side}
 use Rattle.corr_game.specs.declared.sides.Side.TheVariants.{One, Two}
 use Rattle.efg_reader.specs.RawGame.{bare_node, bare_nodes}

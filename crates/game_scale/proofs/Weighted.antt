@@ -1,5 +1,5 @@
 -- What a path pays, weighed by its probability, and the same in lowest terms: a scale makes both whole, with one number.
-use Rattle.std.proofs.Common.{ℤ, pos, ◌*ℤ◌, ◌<ℤ◌, sym}
+use Rattle.std.proofs.Common.{ℤ, pos, ◌<ℤ◌, sym}
 use Rattle.exact_algebra.proofs.Order.{product_positive}
 use Rattle.corr_num.specs.Fraction.{Fraction, IsReduced}
 use Rattle.corr_game.specs.declared.sides.Side.{Side}

@@ -1,4 +1,4 @@
--- The amounts of a game: what a leaf pays a player, weighed by the probability of its path and scaled.
+-- The amounts of a game: what a leaf pays a player, weighed by the probability of its path (von Stengel 1996) and scaled.
 use Rattle.std.specs.Prelude.{◌≡◌, ℕ, ◌<◌, ◌^◌, ◌≤◌, List, Some, slice_get, ℤ, unsigned_abs}
 use Rattle.corr_game.specs.declared.nodes.Node.{Node}
 use Rattle.corr_game.specs.declared.nodes.Node.TheVariants as node

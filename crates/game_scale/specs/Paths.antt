@@ -1,6 +1,6 @@
 -- The path to a node of a game tree: the probability with which chance plays along it, and what its nodes pay
 -- (Kuhn 1953, "Extensive games and the problem of information").
-use Rattle.std.specs.Prelude.{◌≡◌, ℕ, ◌<◌, ◌^◌, ◌≤◌, List, length, Some, slice_get, pos, ◌≤ℤ◌, unsigned_abs}
+use Rattle.std.specs.Prelude.{◌≡◌, ℕ, ◌^◌, ◌≤◌, List, length, Some, slice_get, pos, ◌≤ℤ◌, unsigned_abs}
 use Rattle.corr_num.specs.Fraction.{Fraction, IsLowest, IsReduced, fraction_sum, fraction_product}
 use Rattle.corr_game.specs.declared.sides.Side.{Side}
 use Rattle.corr_game.specs.declared.sides.Side.TheVariants.{One, Two}
@@ -64,7 +64,7 @@ LeadsWith Leaf k prob = ⊥
 LeadsWith (Chance kids probs) k prob = slice_get probs k ≡ Some prob
 LeadsWith (Choice side set kids) k prob = prob ≡ certain
 
--- a node is reached over kids: with this probability, and with these sums of what the nodes above it pay
+-- a node is reached from the path before it with this probability, and adds what it pays itself
 pub record IsReached (path before : PathView) (prob : Fraction) (node : RawNode) : Type 0 where
   pub chance : IsReduced path.chance (fraction_product before.chance prob)
   pub one : IsReduced path.one (fraction_sum before.one node.one)

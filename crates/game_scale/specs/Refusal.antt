@@ -1,14 +1,28 @@
--- Why a game has no amounts within the limits: the first that is beyond them.
+-- Why a game has no amounts within the limits of this project: the first path, scale or amount that is beyond them.
 use Rattle.std.specs.Prelude.{◌≡◌, ℕ, ◌<◌, List, Some, slice_get, ℤ, pos, ◌^◌, ◌≤ℤ◌}
 use Rattle.corr_game.specs.declared.payoffs.Pay.{Pay}
 use Rattle.corr_game.specs.declared.sides.Side.{Side}
 use Rattle.corr_game.specs.declared.sides.Side.TheVariants.{One, Two}
+use Rattle.efg_reader.specs.RawGame.{RawGameView}
 use Rattle.efg_reader.specs.declared.raw_game.RawNode.{RawNode}
 use Rattle.game_scale.specs.declared.refusal.ScaleRefusal.{ScaleRefusal}
 use Rattle.game_scale.specs.declared.refusal.ScaleRefusal.TheVariants.{PathTooFine, ScaleTooLarge, AmountTooLarge, NoMemory}
 use Rattle.game_scale.specs.Amounts.{IsPaid, IsOverpaid}
-use Rattle.game_scale.specs.Paths.{PathView, IsLeaf}
+use Rattle.game_scale.specs.Paths.{PathView, IsPath, IsLeaf, IsWithin}
 use Rattle.game_scale.specs.Scales.{IsLeastScale, IsScaleTooLarge}
+
+-- node n is the first whose path is beyond the limits
+pub record IsPathTooFine (raw : RawGameView) (n : ℕ) : Type 0 where
+  pub path : PathView
+  pub reached : IsPath raw n path
+  pub beyond : IsWithin path → ⊥
+  pub before : (m : ℕ) → m < n → (earlier : PathView) × IsPath raw m earlier × IsWithin earlier
+
+-- the refusal of paths; memory may run out
+abbrev pub IsPathRefusal : RawGameView → ScaleRefusal → Type 0
+IsPathRefusal raw (PathTooFine node) = IsPathTooFine raw node
+IsPathRefusal raw NoMemory = Unit {0}
+IsPathRefusal raw other = ⊥
 
 -- node n is the first leaf at which an amount is over 2^28
 pub record IsAmountTooLarge (scale : Side → ℤ) (nodes : List RawNode) (paths : List PathView) (n : ℕ) : Type 0 where

@@ -1,7 +1,6 @@
 -- The scale of a player: the least number that makes whole what the player is paid at each leaf, weighed by the
--- probability of its path.
+-- probability of its path, as payoffs of the sequence form are (von Stengel 1996).
 use Rattle.std.specs.Prelude.{◌≡◌, ℕ, ◌<◌, ◌^◌, List, length, Some, slice_get, ℤ, pos, ◌*ℤ◌, ◌<ℤ◌, ◌≤ℤ◌}
-use Rattle.std.specs.Int.{◌∣◌}
 use Rattle.corr_num.specs.Fraction.{Fraction}
 use Rattle.corr_game.specs.declared.sides.Side.{Side}
 use Rattle.efg_reader.specs.declared.raw_game.RawNode.{RawNode}
@@ -33,7 +32,3 @@ IsScaleTooLarge side nodes paths = (scale : ℤ) → pos 0 <ℤ scale → MakesA
 -- the scale of each player, within 2^24
 abbrev pub AreScales : List RawNode → List PathView → (Side → ℤ) → Type 0
 AreScales nodes paths scale = (side : Side) → IsLeastScale side nodes paths (scale side) × (scale side ≤ℤ pos (2 ^ 24))
-
--- m is the least common multiple of a and b
-abbrev pub IsLcm : ℕ → ℕ → ℕ → Type 0
-IsLcm a b m = (a ∣ m) × (b ∣ m) × ((k : ℕ) → a ∣ k → b ∣ k → m ∣ k)

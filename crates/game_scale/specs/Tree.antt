@@ -1,5 +1,5 @@
--- A game has the tree and the sets of the game that its file says.
-use Rattle.std.specs.Prelude.{◌≡◌, List, map, pos}
+-- A game has the tree and the information sets (Kuhn 1953) of the game that its file says.
+use Rattle.std.specs.Prelude.{◌≡◌, map, pos}
 use Rattle.corr_game.specs.declared.nodes.Node.{Node}
 use Rattle.corr_game.specs.declared.nodes.Node.TheVariants.{Leaf, Chance, Choice}
 use Rattle.corr_game.specs.Game.{GameView}

@@ -10,6 +10,7 @@ mod paths;
 mod refusal;
 mod scales;
 mod scaling;
+mod ways;
 
 pub use refusal::ScaleRefusal;
 pub use scaling::scale;

@@ -1,12 +1,15 @@
 //! The probability of the path to each node, and the sums of the payoffs on it.
 
-ghost use Rattle.std.specs.Prelude.{◌≡◌, ◌<◌, ◌≤◌, ◌^◌, length, slice_get, Some, All, IfOk, IfSome, unsigned_abs};
-ghost use Rattle.efg_reader.specs.RawGame.{IsRawGame, IsLimited, IsProbability, HasProbabilities, bare_node};
+ghost use Rattle.std.specs.Prelude.{◌≡◌, ◌↔◌, ◌<◌, length, slice_get, Some, All, IfErr, IfOk, IfSome, IsTrue};
+ghost use Rattle.efg_reader.specs.RawGame.{IsLimited, IsProbability, HasProbabilities, bare_node};
 ghost use Rattle.corr_game.specs.Node.{kids_of};
 ghost use Rattle.corr_num.specs.Fraction.{IsLowest, IsReduced};
-ghost use Rattle.game_scale.specs.Paths.{IsChance, IsFine, IsPathView, weighted};
+ghost use Rattle.game_scale.specs.Paths.{ArePaths, IsPathView, IsWithin, LeadsWith, PathView, certain, weighted};
+ghost use Rattle.game_scale.specs.Refusal.{IsPathRefusal};
+ghost use Rattle.game_scale.specs.Ways.{ArePassed, IsAlong, IsLed};
 
 use crate::refusal::ScaleRefusal;
+use crate::ways::Way;
 use corr_game::{NodeList, Side};
 use corr_num::Frac;
 use efg_reader::{FracList, RawGame, RawNode, Shape};
@@ -21,17 +24,6 @@ const FINEST_PAYOFF: i128 = 1 << 24;
 
 /// The greatest magnitude of a sum's numerator.
 const LARGEST_PAYOFF: u128 = 1 << 40;
-
-/// What leads to a node: the probability of its path, and each player's payoffs at the nodes above it.
-#[derive(Clone, Copy, Debug)]
-struct Way {
-    chance: Frac,
-    one: Frac,
-    two: Frac,
-    ghost chance_is: { IsChance chance },
-    ghost one_is: { IsLimited one },
-    ghost two_is: { IsLimited two },
-}
 
 /// The probability of the path to a node, and each player's payoffs at all of its nodes.
 #[derive(Debug, Drop)]
@@ -52,20 +44,29 @@ impl Model for Path {
 }
 
 impl Path {
-    /// The path to a node, where its numbers are within the limits.
+    /// The path to a node at the end of this way, where its numbers are within the limits.
     fn to(way: &Way, node: &RawNode) -> Option<Path>
         requires one { IsLimited node.now.one }
         requires two { IsLimited node.now.two }
+        ensures some { IfSome result (λ path. IsAlong way.now node.now path × IsWithin path) }
+        ensures none { result ≡ None → (path : PathView) × IsAlong way.now node.now path × (IsWithin path → ⊥) }
     {
-        let chance = fine(way.chance)?;
-        let one = limited(way.one.plus(&node.one))?;
-        let two = limited(way.two.plus(&node.two))?;
-        Some(Path { chance, one, two })
+        let one = way.one.plus(&node.one);
+        let two = way.two.plus(&node.two);
+        if !is_within(&way.chance, &one, &two) {
+            return None;
+        }
+        Some(Path {
+            chance: way.chance,
+            one,
+            two,
+        })
     }
 
     /// The way to a kid to which chance leads with this probability.
     fn by_chance(&self, prob: &Frac) -> Way
         requires { IsProbability prob.now }
+        ensures { IsLed self.now prob.now result }
     {
         // Asked for what it ensures: that the denominator is above 0.
         let _den = prob.den();
@@ -77,7 +78,9 @@ impl Path {
     }
 
     /// The way to a kid that a player chooses.
-    fn by_choice(&self) -> Way {
+    fn by_choice(&self) -> Way
+        ensures { IsLed self.now certain result }
+    {
         Way {
             chance: self.chance,
             one: self.one,
@@ -99,9 +102,10 @@ impl Path {
 
 /// The path to each node, in file order, or the first node whose path is too fine.
 pub fn paths_of(alloc: Global, game: &RawGame) -> Result<Vec<Path>, ScaleRefusal>
-    ensures { IfOk result (λ paths. length paths.items ≡ length game.now.nodes) }
+    ensures ok { IfOk result (λ paths. ArePaths game.now paths.items) }
+    ensures err { IfErr result (λ refusal. IsPathRefusal game.now refusal) }
 {
-    let mut ways = vec![in alloc; start(); game.len() as usize]?;
+    let mut ways = vec![in alloc; Way::to_root(); game.len() as usize]?;
     let mut paths = Vec::new(alloc);
     for n in 0..game.len() {
         let node = game.node(n);
@@ -114,28 +118,19 @@ pub fn paths_of(alloc: Global, game: &RawGame) -> Result<Vec<Path>, ScaleRefusal
     Ok(paths)
 }
 
-/// The way to the root.
-fn start() -> Way {
-    Way {
-        chance: Frac::of(1, 1),
-        one: Frac::of(0, 1),
-        two: Frac::of(0, 1),
-    }
+/// Whether the numbers of a path are within the limits.
+fn is_within(chance: &Frac, one: &Frac, two: &Frac) -> bool
+    ensures limits { IsTrue result ↔ IsWithin (record { chance = chance.now; one = one.now; two = two.now }) }
+    ensures lowest { IsLowest chance.now }
+{
+    chance.den() <= FINEST_CHANCE && is_limited(one) && is_limited(two)
 }
 
-/// A probability that isn't too fine.
-fn fine(chance: Frac) -> Option<Frac>
-    ensures { IfSome result (λ kept. (kept ≡ chance) × IsFine kept × IsLowest kept) }
+/// Whether a sum of payoffs is within the limits.
+fn is_limited(sum: &Frac) -> bool
+    ensures { IsTrue result ↔ IsLimited sum.now }
 {
-    (chance.den() <= FINEST_CHANCE).then_some(chance)
-}
-
-/// A sum of payoffs that is within the limits.
-fn limited(sum: Frac) -> Option<Frac>
-    ensures { IfSome result (λ kept. (kept ≡ sum) × IsLimited kept × IsLowest kept) }
-{
-    let is_within = sum.num().unsigned_abs() <= LARGEST_PAYOFF && sum.den() <= FINEST_PAYOFF;
-    is_within.then_some(sum)
+    sum.num().unsigned_abs() <= LARGEST_PAYOFF && sum.den() <= FINEST_PAYOFF
 }
 
 /// Leads from a node to each of its kids.
@@ -143,6 +138,7 @@ fn pass_on(ways: &mut Vec<Way>, shape: &Shape, path: &Path)
     requires within { All (λ kid. kid < length ways.old.items) (kids_of (bare_node shape.now)) }
     requires probabilities { HasProbabilities shape.now }
     ensures count { length ways.new.items ≡ length ways.old.items }
+    ensures each { let kids = kids_of (bare_node shape.now) in ArePassed (LeadsWith shape.now) kids (length kids) path.now ways.old.items ways.new.items }
 {
     match shape {
         Shape::Leaf => {}
@@ -157,6 +153,7 @@ fn pass_by_chance(ways: &mut Vec<Way>, kids: &NodeList, probs: &FracList, path: 
     requires per_kid { length probs.now ≡ length kids.now }
     requires probabilities { All IsProbability probs.now }
     ensures count { length ways.new.items ≡ length ways.old.items }
+    ensures each { ArePassed (λ k prob. slice_get probs.now k ≡ Some prob) kids.now (length kids.now) path.now ways.old.items ways.new.items }
 {
     for k in 0..kids.len() {
         ways[*kids.at(k) as usize] = path.by_chance(probs.at(k));
@@ -167,6 +164,7 @@ fn pass_by_chance(ways: &mut Vec<Way>, kids: &NodeList, probs: &FracList, path: 
 fn pass_to_each(ways: &mut Vec<Way>, kids: &NodeList, path: &Path)
     requires { All (λ kid. kid < length ways.old.items) kids.now }
     ensures count { length ways.new.items ≡ length ways.old.items }
+    ensures each { ArePassed (λ k prob. prob ≡ certain) kids.now (length kids.now) path.now ways.old.items ways.new.items }
 {
     for k in 0..kids.len() {
         ways[*kids.at(k) as usize] = path.by_choice();

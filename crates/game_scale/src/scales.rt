@@ -3,8 +3,9 @@
 ghost use Rattle.std.specs.Prelude.{◌≡◌, ℕ, ◌≤◌, ◌<◌, ◌^◌, length, pos, ◌≤ℤ◌, IfErr, IfOk, IfSome};
 ghost use Rattle.std.specs.Int.{◌∣◌};
 ghost use Rattle.game_scale.specs.Amounts.{scale_in};
+ghost use Rattle.game_scale.specs.LeastMultiple.{IsLcm};
 ghost use Rattle.game_scale.specs.Refusal.{IsScaleRefusal};
-ghost use Rattle.game_scale.specs.Scales.{AreScales, IsLcm, IsLeastScale, IsScaleTooLarge};
+ghost use Rattle.game_scale.specs.Scales.{AreScales, IsLeastScale, IsScaleTooLarge};
 
 use crate::paths::Path;
 use crate::refusal::ScaleRefusal;

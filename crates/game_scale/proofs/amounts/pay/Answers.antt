@@ -2,12 +2,7 @@
 use Rattle.std.proofs.Common.{rules, FitsSigned, refl}
 use Rattle.std.specs.Int.{w64}
 use Rattle.std.proofs.lemmas.Int.{to_z-of_z}
-use Rattle.corr_game.specs.declared.sides.Side.{Side}
 use Rattle.corr_game.specs.declared.sides.Side.TheVariants.{One, Two}
-use Rattle.corr_game.specs.Node.{amount_of}
-use Rattle.game_scale.specs.Amounts.{scale_in}
-use Rattle.game_scale.specs.Paths.{weighted}
-use Rattle.game_scale.specs.Scales.{IsTimes}
 use Rattle.game_scale.proofs.Paid.{paid}
 use Rattle.game_scale.proofs.Weighted.{whole_reduced, times_weighted}
 use Rattle.game_scale.proofs.amounts.pay.Goals as goal

@@ -1,5 +1,5 @@
 -- The node that is taken is the next of the file.
-use Rattle.std.proofs.Common.{rules, ◌≡◌, ℕ, drop, length, subst, ap, ◌∙◌, sym, arith, refl}
+use Rattle.std.proofs.Common.{◌≡◌, ℕ, drop, length, subst, ap, ◌∙◌, sym, arith}
 use Rattle.std.proofs.lemmas.List.{length_push}
 use Rattle.game_scale.specs.Amounts.{scale_in}
 use Rattle.game_scale.specs.Refusal.{IsAmountTooLarge}

@@ -1,8 +1,8 @@
 -- What is answered is the least common multiple.
-use Rattle.std.proofs.Common.{◌≡◌, ℕ, ◌*◌, ◌/◌, ◌<◌, ◌≤◌, arith}
-use Rattle.std.specs.Int.{IsGcd, ◌∣◌}
+use Rattle.std.proofs.Common.{ℕ, ◌*◌, ◌/◌, ◌<◌, arith}
+use Rattle.std.specs.Int.{IsGcd}
 use Rattle.std.proofs.lemmas.Nat.Gcd.{le_of_dvd}
-use Rattle.game_scale.specs.Scales.{IsLcm}
+use Rattle.game_scale.specs.LeastMultiple.{IsLcm}
 use Rattle.game_scale.proofs.LeastMultiples.{lcm_is, gcd_some, multiple_some, lcm_least}
 use Rattle.game_scale.proofs.scales.common_multiple.Goals as goal
 

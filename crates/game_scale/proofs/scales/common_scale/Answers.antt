@@ -1,6 +1,5 @@
 -- At a leaf the scale becomes the least common multiple with its denominator, and elsewhere it stays.
-use Rattle.std.proofs.Common.{rules, ◌≡◌, FitsSigned, refl, subst, sym, ◌∙◌, arith, ap}
-use Rattle.std.specs.Prelude.{unsigned_abs}
+use Rattle.std.proofs.Common.{rules, FitsSigned, refl, arith}
 use Rattle.std.specs.Int.{w64, w128}
 use Rattle.std.proofs.lemmas.Int.{to_z-of_z, to_z_pos}
 use Rattle.game_scale.proofs.CommonScale.{IsLeafAt, common_start, common_other, common_leaf, common_none, common_done}

@@ -1,4 +1,3 @@
-use Rattle.std.proofs.Common.{rules}
 use Rattle.game_scale.proofs.Chances.{reduced_product_chance}
 use Rattle.game_scale.proofs.paths.Path.by_chance.Goals as goal
 

@@ -1,0 +1,11 @@
+-- The ways to the kids so far lead on from the path.
+use Rattle.std.proofs.Common.{◌≡◌, length}
+use Rattle.game_scale.specs.Paths.{certain}
+use Rattle.game_scale.specs.Ways.{ArePassed}
+use Rattle.game_scale.proofs.paths.pass_to_each.Given as goal
+
+abbrev pub invariant-loop-k : goal.invariant-loop-k
+invariant-loop-k l = record {
+  count : length l.ways.items ≡ length l.initial.ways.items;
+  each : ArePassed (λ k prob. prob ≡ certain) l.kids l.k l.path l.initial.ways.items l.ways.items;
+}
