@@ -1,6 +1,6 @@
 -- Each count that the size of a program adds up has one value, and none is large: the counts are sums whose terms have
 -- one value, over fewer sets than nodes.
-use Rattle.std.proofs.Common.{◌≡◌, ℕ, ◌+◌, ◌*◌, ◌^◌, ◌<◌, ◌≤◌, Option, Some, None, length, slice_get, ap, subst, refl, arith}
+use Rattle.std.proofs.Common.{◌≡◌, ℕ, ◌+◌, ◌*◌, ◌≤◌, Option, Some, None, length, slice_get, ap, arith}
 use Rattle.std.proofs.lemmas.Option.{slice_get_within, get_or_from_slice_get}
 use Rattle.corr_game.specs.declared.nodes.SetId.{SetId}
 use Rattle.corr_game.specs.declared.nodes.SetInfo.{SetInfo}
@@ -11,8 +11,8 @@ use Rattle.corr_game.specs.declared.sides.Side.TheVariants.{One, Two}
 use Rattle.corr_game.specs.Game.{GameView, IsGame, sets_of}
 use Rattle.corr_game.proofs.SetCount.{count_at_most}
 use Rattle.connected_pairs.specs.Connected.{PairsView}
-use Rattle.incentive_rows.specs.Sum.{IsSum, IsWhere}
-use Rattle.incentive_rows.specs.Trigger.{HasSet, TriggersAt}
+use Rattle.incentive_rows.specs.Sum.{IsSum}
+use Rattle.incentive_rows.specs.Trigger.{TriggersAt}
 use Rattle.incentive_rows.specs.Size.{CountsFor, HasCount, HasCountAt, HasTotalAt, HasTotal, HasIncentives, HasSize, row_each, value_each}
 use Rattle.incentive_rows.proofs.Sums.{HasOne, sum_bound, sum_one, where_bound, where_one}
 

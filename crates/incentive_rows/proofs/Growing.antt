@@ -1,8 +1,7 @@
 -- Coefficients that grow one after the other grow by the sum of both amounts.
-use Rattle.std.proofs.Common.{◌≡◌, ℕ, ◌+◌, ◌≤◌, length, refl, ap, ◌∙◌, arith}
-use Rattle.std.specs.Prelude.{unsigned_abs}
-use Rattle.lp_form.specs.Program.{LpView, coefficient}
-use Rattle.incentive_rows.specs.Bounds.{IsWithin, Grows}
+use Rattle.std.proofs.Common.{◌≡◌, ℕ, ◌+◌, ◌≤◌, refl, ap, ◌∙◌, arith}
+use Rattle.lp_form.specs.Program.{LpView}
+use Rattle.incentive_rows.specs.Bounds.{Grows}
 
 pub grows-none : (by : ℕ) (lp : LpView) → Grows by lp lp
 grows-none by lp = record {

@@ -1,5 +1,5 @@
 -- There are at most 4096 sets, each with a value among the trigger's.
-use Rattle.std.proofs.Common.{◌≡◌, ◌<◌, ◌+◌, ◌^◌, Some, length, slice_get, sym, ap, ◌∙◌, arith}
+use Rattle.std.proofs.Common.{◌≡◌, ◌<◌, ◌^◌, Some, length, slice_get, sym, ap, ◌∙◌, arith}
 use Rattle.std.proofs.lemmas.Option.{slice_get-get_or}
 use Rattle.incentive_rows.proofs.Counts.{few_sets}
 use Rattle.incentive_rows.proofs.Growing.{grows-on, grows-none, same_columns}

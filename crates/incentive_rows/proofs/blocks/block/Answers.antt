@@ -1,7 +1,5 @@
 -- From 0 the values, the slacks and the leaves raise coefficients one after the other.
 use Rattle.std.proofs.Common.{◌+◌, ◌^◌, arith}
-use Rattle.lp_form.specs.Program.{blank}
-use Rattle.incentive_rows.specs.Bounds.{Grows}
 use Rattle.incentive_rows.proofs.Growing.{grows-on}
 use Rattle.incentive_rows.proofs.Parts.{blank_grown, blank_within}
 use Rattle.incentive_rows.proofs.Placing.{stand_in}

@@ -1,5 +1,5 @@
 -- The rows of the sets gone over and of the next one are within those of all.
-use Rattle.std.proofs.Common.{◌≡◌, ◌<◌, length, arith}
+use Rattle.std.proofs.Common.{◌≡◌, length, arith}
 use Rattle.corr_game.specs.Game.{sets_of}
 use Rattle.incentive_rows.specs.Size.{HasCountAt, row_each, value_each}
 use Rattle.incentive_rows.proofs.Sums.{sum_room, sum_split}

@@ -1,7 +1,7 @@
 -- The triggers at a set need the room of one block each.
-use Rattle.std.proofs.Common.{◌≡◌, ◌<◌, ◌+◌, arith}
+use Rattle.std.proofs.Common.{◌≡◌, ◌+◌, arith}
 use Rattle.incentive_rows.proofs.Counts.{times_one}
-use Rattle.incentive_rows.proofs.Parts.{adds_as, adds_none, adds_on, one_more_of, room_left}
+use Rattle.incentive_rows.proofs.Parts.{adds_as, adds_on, one_more_of, room_left}
 use Rattle.incentive_rows.proofs.rows.add_triggers.Goals as goal
 
 pub add_trigger-requires-clause-before : goal.add_trigger-requires-clause-before

@@ -1,8 +1,7 @@
 -- The program's columns have room for the rows and values of both players.
-use Rattle.std.proofs.Common.{◌≡◌, ℕ, ◌+◌, ◌≤◌, length, ap, arith}
+use Rattle.std.proofs.Common.{length, ap, arith}
 use Rattle.lp_form.specs.Program.{LpView}
 use Rattle.incentive_rows.proofs.Counts.{incentives_fit}
-use Rattle.incentive_rows.proofs.Parts.{room_left}
 use Rattle.incentive_rows.proofs.rows.incentives.Goals as goal
 
 pub overflow_cast-floor : goal.overflow_cast-floor
