@@ -15,7 +15,7 @@ use Rattle.incentive_rows.specs.declared.rows.Part.{Part}
 use Rattle.incentive_rows.specs.Bounds.{IsWithin, Grows}
 use Rattle.incentive_rows.specs.Part.{AddsTo, AreIncentives, HasRoom}
 
-same_all : {X : Type 0} (n i : ℕ) (x : X) → get_or (replicate n x) i x ≡ x
+pub same_all : {X : Type 0} (n i : ℕ) (x : X) → get_or (replicate n x) i x ≡ x
 same_all zero i x = refl
 same_all (suc n) zero x = refl
 same_all (suc n) (suc i) x = same_all n i x

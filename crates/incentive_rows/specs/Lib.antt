@@ -1,7 +1,9 @@
 pub mod Bounds
+pub mod Coefficient
 pub mod Leaf
 pub mod Part
 pub mod Places
 pub mod Size
 pub mod Sum
+pub mod Term
 pub mod Trigger

@@ -1,8 +1,9 @@
-ghost use Rattle.std.specs.Prelude.{◌≡◌, ◌≢◌, ◌⊎◌, ℕ, ◌<◌, ◌≤◌, ◌+◌, ◌^◌, ◌+ℤ◌, length, unsigned_abs, IfSome, OnOk};
-ghost use Rattle.lp_form.specs.Program.{coefficient};
+ghost use Rattle.std.specs.Prelude.{◌≡◌, ℕ, ◌<◌, ◌≤◌, ◌+◌, ◌^◌, pos, negsuc, ◌+ℤ◌, length, unsigned_abs, IfSome, OnOk};
 ghost use Rattle.sequences.specs.Number.{count_of, side_of};
 ghost use Rattle.connected_pairs.specs.Connected.{IsPairs, other};
 ghost use Rattle.incentive_rows.specs.Bounds.{Grows, IsWithin};
+ghost use Rattle.incentive_rows.specs.Coefficient.{IsAt, IsAtPair, pair_column};
+ghost use Rattle.incentive_rows.specs.Term.{Changes};
 
 use connected_pairs::Pairs;
 use corr_game::Side;
@@ -15,30 +16,34 @@ pub fn add(lp: &mut Lp, row: u32, col: u32, value: i64) -> Result<(), NoMemory>
     requires in_columns { col < lp.old.cols }
     requires room { IsWithin (2 ^ 43) lp.old }
     requires small { unsigned_abs value ≤ 2 ^ 28 }
-    ensures placed { OnOk result (coefficient lp.new row col ≡ coefficient lp.old row col +ℤ value) }
-    ensures others { OnOk result ((r k : ℕ) → (r ≢ row) ⊎ (k ≢ col) → coefficient lp.new r k ≡ coefficient lp.old r k) }
+    ensures changes { OnOk result (Changes (IsAt row col value) lp.old lp.new) }
     ensures grows { OnOk result ((by : ℕ) → unsigned_abs value ≤ by → Grows by lp.old lp.new) }
 {
     let total = raised(lp.coef(row, col), value);
-    lp.set(row, col, total)
+    lp.set(row, col, total)?;
+    Ok(())
 }
 
 pub fn add_1(lp: &mut Lp, row: u32, col: u32) -> Result<(), NoMemory>
     requires in_rows { row < length lp.old.rows }
     requires in_columns { col < lp.old.cols }
     requires room { IsWithin (2 ^ 43) lp.old }
+    ensures changes { OnOk result (Changes (IsAt row col (pos 1)) lp.old lp.new) }
     ensures grows { OnOk result (Grows 1 lp.old lp.new) }
 {
-    add(lp, row, col, 1)
+    add(lp, row, col, 1)?;
+    Ok(())
 }
 
 pub fn take_1(lp: &mut Lp, row: u32, col: u32) -> Result<(), NoMemory>
     requires in_rows { row < length lp.old.rows }
     requires in_columns { col < lp.old.cols }
     requires room { IsWithin (2 ^ 43) lp.old }
+    ensures changes { OnOk result (Changes (IsAt row col (negsuc 0)) lp.old lp.new) }
     ensures grows { OnOk result (Grows 1 lp.old lp.new) }
 {
-    add(lp, row, col, -1)
+    add(lp, row, col, -1)?;
+    Ok(())
 }
 
 fn raised(total: i64, value: i64) -> i64
@@ -65,9 +70,10 @@ pub fn add_at_pair(
     requires beside_in { pair.1 < count_of (side_of (other at.0) pairs.now.seqs) }
     requires room { IsWithin (2 ^ 43) lp.old }
     requires small { unsigned_abs value ≤ 2 ^ 28 }
+    ensures changes { OnOk result (Changes (IsAtPair pairs.now at.0 at.1 pair.0 pair.1 value) lp.old lp.new) }
     ensures grows { OnOk result (Grows (2 ^ 28) lp.old lp.new) }
 {
-    match pair_column(pairs, at.0, pair.0, pair.1) {
+    match column_of(pairs, at.0, pair.0, pair.1) {
         None => Ok(()),
         Some(col) => {
             add(lp, at.1, col, value)?;
@@ -76,11 +82,12 @@ pub fn add_at_pair(
     }
 }
 
-fn pair_column(pairs: &Pairs, side: Side, own: u32, beside: u32) -> Option<u32>
+fn column_of(pairs: &Pairs, side: Side, own: u32, beside: u32) -> Option<u32>
     requires own_in { own < count_of (side_of side pairs.now.seqs) }
     requires beside_in { beside < count_of (side_of (other side) pairs.now.seqs) }
     requires rules { IsPairs pairs.now }
-    ensures { IfSome result (λ col. col < length pairs.now.pairs) }
+    ensures value { result ≡ pair_column pairs.now side own beside }
+    ensures in_range { IfSome result (λ col. col < length pairs.now.pairs) }
 {
     match side {
         Side::One => pairs.index_of(own, beside),

@@ -1,10 +1,13 @@
-ghost use Rattle.std.specs.Prelude.{◌≡◌, ◌<◌, ◌≤◌, ◌+◌, ◌^◌, length, IfOk, OnOk};
+ghost use Rattle.std.specs.Prelude.{◌≡◌, ℕ, ◌<◌, ◌≤◌, ◌+◌, ◌^◌, length, unwrap_or, IfOk, OnOk};
 ghost use Rattle.corr_game.specs.Game.{sets_of};
-ghost use Rattle.sequences.specs.Number.{side_of};
+ghost use Rattle.sequences.specs.Number.{IsOwn, last_of, side_of};
+ghost use Rattle.lp_form.specs.Program.{coefficient};
 ghost use Rattle.connected_pairs.specs.Connected.{IsPairs, IsPairsOf};
 ghost use Rattle.incentive_rows.specs.Bounds.{Grows, IsWithin};
+ghost use Rattle.incentive_rows.specs.Coefficient.{IsAboveTerm, IsCoefficient, IsSetTerm, IsSlackTerm, IsValueTerm, row_at_move};
 ghost use Rattle.incentive_rows.specs.Part.{AreApart, AreIncentives};
 ghost use Rattle.incentive_rows.specs.Places.{ArePlaces, StandIn};
+ghost use Rattle.incentive_rows.specs.Term.{AreTerms, Changes};
 ghost use Rattle.incentive_rows.specs.Trigger.{IsKnown};
 
 use crate::adding::{add_1, take_1};
@@ -42,6 +45,8 @@ pub fn block(
     ensures rows { IfOk result (λ lp. length lp.rows ≡ places.now.rows + 1) }
     ensures columns { IfOk result (λ lp. lp.cols ≡ columns.now.all) }
     ensures made { IfOk result (λ lp. AreIncentives lp) }
+    ensures terms { IfOk result
+        (λ lp. (r k : ℕ) → IsCoefficient game.now pairs.now trigger.now places.now.sets.items places.now.rows columns.now r k (coefficient lp r k)) }
 {
     let mut lp = Lp::new(alloc, places.rows + 1, columns.all)?;
     add_values(game, pairs, trigger, places, columns, &mut lp)?;
@@ -65,6 +70,7 @@ fn add_values(
     requires in_rows { length lp.old.rows ≡ places.now.rows + 1 }
     requires in_columns { lp.old.cols ≡ columns.now.all }
     requires before { IsWithin (2 ^ 41) lp.old }
+    ensures changes { OnOk result (Changes (λ r k. AreTerms (IsSetTerm game.now pairs.now trigger.now places.now.sets.items places.now.rows columns.now r k) (length (sets_of trigger.now.side game.now))) lp.old lp.new) }
     ensures grows { OnOk result (Grows (2 ^ 20) lp.old lp.new) }
 {
     for set in 0..game.sets(trigger.side) {
@@ -86,6 +92,7 @@ fn add_value(actions: u32, place: SetPlace, columns: &Columns, lp: &mut Lp) -> R
     requires in_columns { columns.now.values + place.value < lp.old.cols }
     requires floor { columns.now.floor < lp.old.cols }
     requires before { IsWithin (2 ^ 42) lp.old }
+    ensures changes { OnOk result (Changes (IsValueTerm columns.now actions place) lp.old lp.new) }
     ensures grows { OnOk result (Grows 128 lp.old lp.new) }
 {
     for action in 0..actions {
@@ -112,6 +119,8 @@ fn add_value_above(
     requires in_columns { columns.now.values + at.1.value < lp.old.cols }
     requires floor { columns.now.floor < lp.old.cols }
     requires before { IsWithin (2 ^ 42 + 128) lp.old }
+    ensures changes { OnOk result
+        ((own : ℕ) × IsOwn (side_of trigger.now.side pairs.now.seqs) at.0.0 own × Changes (IsAboveTerm columns.now (unwrap_or (row_at_move places.now.sets.items (last_of (side_of trigger.now.side pairs.now.seqs) own)) places.now.rows) at.1) lp.old lp.new) }
     ensures grows { OnOk result (Grows 2 lp.old lp.new) }
 {
     let own = pairs.seqs().own(trigger.side, at.0);
@@ -127,6 +136,7 @@ fn add_slacks(rows: u32, columns: &Columns, lp: &mut Lp) -> Result<(), NoMemory>
     requires in_columns { columns.now.slacks + rows ≤ lp.old.cols }
     requires few { lp.old.cols ≤ 8192 }
     requires before { IsWithin (2 ^ 41) lp.old }
+    ensures changes { OnOk result (Changes (IsSlackTerm columns.now rows) lp.old lp.new) }
     ensures grows { OnOk result (Grows (2 ^ 13) lp.old lp.new) }
 {
     for row in 0..rows {

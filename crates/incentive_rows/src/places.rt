@@ -1,8 +1,9 @@
 ghost use Rattle.std.specs.Prelude.{◌≡◌, ◌<◌, ◌+◌, Some, slice_get, length, IfOk, IfSome, OnOk};
 ghost use Rattle.corr_game.specs.Game.{sets_of};
-ghost use Rattle.sequences.specs.Number.{count_of, side_of};
+ghost use Rattle.sequences.specs.Number.{count_of, last_of, side_of};
 ghost use Rattle.connected_pairs.specs.Connected.{IsPairsOf};
 ghost use Rattle.incentive_rows.specs.declared.places.SetPlace.{SetPlace};
+ghost use Rattle.incentive_rows.specs.Coefficient.{row_at_move, row_from};
 ghost use Rattle.incentive_rows.specs.Places.{ArePlaces, StandIn};
 
 use crate::triggers::is_set_of;
@@ -81,7 +82,8 @@ fn add_place(
 pub fn row_of(pairs: &Pairs, side: Side, places: &Places, seq: u32) -> Option<u32>
     requires known { seq < count_of (side_of side pairs.now.seqs) }
     requires in_rows { StandIn (side_of side pairs.now.seqs) places.now.sets.items places.now.rows }
-    ensures { IfSome result (λ row. row < places.now.rows) }
+    ensures value { result ≡ row_at_move places.now.sets.items (last_of (side_of side pairs.now.seqs) seq) }
+    ensures in_range { IfSome result (λ row. row < places.now.rows) }
 {
     match pairs.seqs().last(side, seq) {
         None => None,
@@ -93,7 +95,8 @@ pub fn row_of(pairs: &Pairs, side: Side, places: &Places, seq: u32) -> Option<u3
 fn row_at(places: &Places, set: SetId, action: u32) -> Option<u32>
     requires known { set.0 < length places.now.sets.items }
     requires in_rows { (place : SetPlace) → slice_get places.now.sets.items set.0 ≡ Some (Some place) → place.row + action < places.now.rows }
-    ensures { IfSome result (λ row. row < places.now.rows) }
+    ensures value { result ≡ row_from (slice_get places.now.sets.items set.0) action }
+    ensures in_range { IfSome result (λ row. row < places.now.rows) }
 {
     match places.sets[set.0 as usize] {
         None => None,

@@ -1,8 +1,10 @@
 -- From 0 the values, the slacks and the leaves raise coefficients one after the other.
 use Rattle.std.proofs.Common.{◌+◌, ◌^◌, arith}
+use Rattle.incentive_rows.proofs.Coefficients.{from_blank}
 use Rattle.incentive_rows.proofs.Growing.{grows-on}
 use Rattle.incentive_rows.proofs.Parts.{blank_grown, blank_within}
 use Rattle.incentive_rows.proofs.Placing.{stand_in}
+use Rattle.incentive_rows.proofs.Terms.{changes_both}
 use Rattle.incentive_rows.proofs.blocks.block.Goals as goal
 
 pub add_slacks-requires-clause-before : goal.add_slacks-requires-clause-before
@@ -23,3 +25,9 @@ returns-clause-made c =
     let both = grows-on (2 ^ 20 + 2 ^ 13) c.in_ok-add_values.ensures.grows c.in_ok-add_slacks.ensures.grows (omega arith) in
     let all = grows-on (2 ^ 42) both c.in_ok-add_leaves.ensures.grows (omega arith) in
     blank_grown (c.args.places.now.rows + 1) c.args.columns.now.all (2 ^ 42) _ (rw (c.in_ok-lp.ensures.all_0) at all) (omega arith)
+
+pub returns-clause-terms : goal.returns-clause-terms
+returns-clause-terms c = λ r k.
+    let both = changes_both c.in_ok-add_values.ensures.changes c.in_ok-add_slacks.ensures.changes in
+    let all = changes_both both c.in_ok-add_leaves.ensures.changes in
+    from_blank (c.args.places.now.rows + 1) c.args.columns.now.all (rw c.in_ok-lp.ensures.all_0 at all) r k
