@@ -35,8 +35,7 @@ pub value_more : (columns : Columns) (n : ℕ) (place : SetPlace) (r k : ℕ) (v
     → IsValueTerm columns (n + 1) place r k v
 value_more columns n place r k v t =
     let before = t.2 in
-    let here = t.3 in
-    (
+    let here = t.3 in (
       before.0 +ℤ here.0,
       before.1 +ℤ here.1,
       rows_more place.row n (columns.values + place.value) r k (pos 1) before.0 here.0 before.2 here.2,

@@ -1,17 +1,22 @@
 -- Programs with no right sides and no payoffs, one behind the other, are one; and how the room for further rows shrinks.
-use Rattle.std.proofs.Common.{◌≡◌, ℕ, ◌+◌, ◌*◌, ◌^◌, ◌<◌, ◌≤◌, zero, suc, List, [], ◌++◌, length, pos, replicate, get_or, refl, ap, ◌∙◌, inl, inr, arith}
+use Rattle.std.proofs.Common.{◌≡◌, ℕ, ◌+◌, ◌*◌, ◌^◌, ◌<◌, ◌≤◌, zero, suc, List, [], ◌++◌, length, pos, replicate, get_or, length-append, refl, ap, ◌∙◌, inl, inr, arith}
 use Rattle.std.specs.Prelude.{unsigned_abs}
 use Rattle.std.proofs.Math.Nat.{mul-le-mul_right}
 use Rattle.std.proofs.Math.Numerals.{add-one-le}
 use Rattle.std.proofs.lemmas.Bool.{cases_lt}
-use Rattle.std.proofs.lemmas.List.{get_or_append_left, get_or-append_right}
+use Rattle.std.proofs.lemmas.List.{get_or_append_left, get_or-append_right, get_or-append-add}
+use Rattle.corr_game.specs.declared.notions.Notion.{Notion}
+use Rattle.corr_game.specs.declared.notions.Notion.TheVariants.{Efce, Efcce, Nfcce}
 use Rattle.corr_game.specs.declared.sides.Side.{Side}
 use Rattle.corr_game.specs.declared.sides.Side.TheVariants.{One, Two}
 use Rattle.lp_form.specs.declared.entries.Entry.{Entry}
 use Rattle.lp_form.specs.Row.{value_at}
-use Rattle.lp_form.specs.Program.{LpView, blank, joined, right_of, payoff_of}
+use Rattle.lp_form.specs.Program.{LpView, blank, entries_of, joined, right_of, payoff_of}
+use Rattle.corr_game.specs.Game.{GameView}
 use Rattle.connected_pairs.specs.Connected.{PairsView}
 use Rattle.incentive_rows.specs.declared.rows.Part.{Part}
+use Rattle.incentive_rows.specs.declared.triggers.Trigger.{Trigger}
+use Rattle.incentive_rows.specs.Standing.{Extends, HasRowsFor, HasRowsOf}
 use Rattle.incentive_rows.specs.Bounds.{IsWithin, Grows}
 use Rattle.incentive_rows.specs.Part.{AddsTo, AreIncentives, HasRoom}
 
@@ -59,6 +64,55 @@ joined_made base more b m = record {
   within = λ r k. in_either (λ entries. unsigned_abs (value_at entries k) ≤ 2 ^ 42) base.rows more.rows [] (λ i. b.within i k) (λ i. m.within i k) r;
 }
 
+pub extends_none : (lp : LpView) → Extends lp lp
+extends_none lp = record {
+  more = omega arith;
+  same = λ r h. refl;
+}
+
+pub extends_on : {a b c : LpView} → Extends a b → Extends b c → Extends a c
+extends_on {a} {b} {c} f g = record {
+  more = omega (arith, f.more, g.more);
+  same = λ r h. g.same r (omega (arith, f.more)) ∙ f.same r h;
+}
+
+pub joined_extends : (base more : LpView) → Extends base (joined base more)
+joined_extends base more = record {
+  more = omega (arith, length-append base.rows more.rows);
+  same = λ r h. get_or_append_left base.rows more.rows [] r h;
+}
+
+-- a row of the second program stands behind those of the first
+pub joined_row : (base more : LpView) (r : ℕ) → entries_of (joined base more) (length base.rows + r) ≡ entries_of more r
+joined_row base more r = get_or-append-add base.rows more.rows r []
+
+-- a trigger's rows stay where they are
+pub rows_kept : {g : GameView} {p : PairsView} {trigger : Trigger} {first values floor cols : ℕ} {a b : LpView} → HasRowsOf g p trigger first values floor cols a → Extends a b → HasRowsOf g p trigger first values floor cols b
+rows_kept {g} {p} {trigger} {first} {values} {floor} {cols} {a} {b} h e = record {
+  sets = h.sets;
+  value_count = h.value_count;
+  row_count = h.row_count;
+  placed = h.placed;
+  inside = omega (arith, h.inside, e.more);
+  terms = λ r k low. rw (e.same (first + r) (omega (arith, h.inside))) (h.terms r k low);
+}
+
+-- the same place said in another way
+pub rows_as : {g : GameView} {p : PairsView} {trigger : Trigger} {first values floor cols f v l c : ℕ} {lp : LpView} → HasRowsOf g p trigger first values floor cols lp → f ≡ first → v ≡ values → l ≡ floor → c ≡ cols → HasRowsOf g p trigger f v l c lp
+rows_as h e d i j = rw (e, d, i, j) h
+
+pub for_as : (notion : Notion) (g : GameView) (p : PairsView) (side : Side) (rows values floor cols r v l c : ℕ) (lp : LpView) → HasRowsFor notion g p side rows values floor cols lp → r ≡ rows → v ≡ values → l ≡ floor → c ≡ cols → HasRowsFor notion g p side r v l c lp
+for_as notion g p side rows values floor cols r v l c lp h e d i j = rw (e, d, i, j) h
+
+pub for_kept : (notion : Notion) (g : GameView) (p : PairsView) (side : Side) (rows values floor cols : ℕ) (a b : LpView) → HasRowsFor notion g p side rows values floor cols a → Extends a b → HasRowsFor notion g p side rows values floor cols b
+for_kept Efce g p side rows values floor cols a b h e = λ set k first value low r v.
+    let old = h set k first value low r v in
+    (old.0, old.1, rows_kept old.2 e)
+for_kept Efcce g p side rows values floor cols a b h e = λ set k first value low r v.
+    let old = h set k first value low r v in
+    (old.0, old.1, rows_kept old.2 e)
+for_kept Nfcce g p side rows values floor cols a b h e = rows_kept h e
+
 pub adds_none : (part : Part) → AreIncentives part.lp → AddsTo part part 0 0
 adds_none part made = record {
   more_rows = omega arith;
@@ -66,6 +120,7 @@ adds_none part made = record {
   floor = refl;
   columns = refl;
   made = made;
+  extends = extends_none part.lp;
 }
 
 pub adds_on : {a b c : Part} {k l m n : ℕ} (rows values : ℕ) → AddsTo a b k l → AddsTo b c m n → rows ≡ k + m → values ≡ l + n → AddsTo a c rows values
@@ -75,6 +130,7 @@ adds_on {a} {b} {c} rows values f g e h = record {
   floor = g.floor ∙ f.floor;
   columns = g.columns ∙ f.columns;
   made = g.made;
+  extends = extends_on f.extends g.extends;
 }
 
 -- what was added takes no room from what still fits beside it
@@ -92,6 +148,7 @@ adds_as {a} {b} rows values f e h = record {
   floor = f.floor;
   columns = f.columns;
   made = f.made;
+  extends = f.extends;
 }
 
 -- one of so many blocks of one size

@@ -33,6 +33,17 @@ placed g p side top set sets values rows info place h at has value row = record 
         let put : place ≡ found = cc (end.1) in
         rw (← put) (omega (arith, value), omega (arith, row, actions))
   ];
+  each = λ k found here. elim (slice_get-push sets (Some place) (Some found) k here) [
+    | inl there ↦ h.each k found there
+    | inr end ↦
+        let index : k ≡ set = end.0 ∙ h.per_set in
+        let put : place ≡ found = cc (end.1) in
+        rw (← put, index, value, row) (has, h.all_values, h.all_rows)
+  ];
+  others = λ k here. elim (slice_get-push sets (Some place) None k here) [
+    | inl there ↦ h.others k there
+    | inr end ↦ absurd (cc (end.1))
+  ];
 }
 
 pub unplaced : (g : GameView) (p : PairsView) (side : Side) (top : Option SetId) (set : ℕ) (sets : List (Option SetPlace)) (values rows : ℕ) (info : SetInfo) → ArePlaces g p side top set sets values rows
@@ -45,6 +56,16 @@ unplaced g p side top set sets values rows info h at lacks = record {
   within = λ k found i here known. elim (slice_get-push sets None (Some found) k here) [
     | inl there ↦ h.within k found i there known
     | inr end ↦ absurd (cc (end.1))
+  ];
+  each = λ k found here. elim (slice_get-push sets None (Some found) k here) [
+    | inl there ↦ h.each k found there
+    | inr end ↦ absurd (cc (end.1))
+  ];
+  others = λ k here. elim (slice_get-push sets None None k here) [
+    | inl there ↦ h.others k there
+    | inr end ↦
+        let index : k ≡ set = end.0 ∙ h.per_set in
+        rw index lacks
   ];
 }
 

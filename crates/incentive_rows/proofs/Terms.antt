@@ -29,18 +29,18 @@ changes_as {A} {B} {a} {b} c f = record { each = λ r k. let here = c.each r k i
 pub changes_both : {A B : ℕ → ℕ → ℤ → Type 0} {a b c : LpView} → Changes A a b → Changes B b c → Changes (λ r k. Both (A r k) (B r k)) a c
 changes_both {A} {B} {a} {b} {c} f g = record {
   each = λ r k.
-    let one = f.each r k in
-    let two = g.each r k in
-    (one.0 +ℤ two.0, (one.0, two.0, one.1, two.1, refl), omega (arith, ints, one.2, two.2));
+      let one = f.each r k in
+      let two = g.each r k in
+      (one.0 +ℤ two.0, (one.0, two.0, one.1, two.1, refl), omega (arith, ints, one.2, two.2));
 }
 
 -- a change by one term more
 pub changes_more : (term : ℕ → ℕ → ℕ → ℤ → Type 0) (n : ℕ) {a b c : LpView} → Changes (λ r k. AreTerms (term r k) n) a b → Changes (λ r k. term r k n) b c → Changes (λ r k. AreTerms (term r k) (n + 1)) a c
 changes_more term n {a} {b} {c} f g = record {
   each = λ r k.
-    let one = f.each r k in
-    let two = g.each r k in
-    (one.0 +ℤ two.0, rw add-one (one.0, two.0, one.1, two.1, refl), omega (arith, ints, one.2, two.2));
+      let one = f.each r k in
+      let two = g.each r k in
+      (one.0 +ℤ two.0, rw add-one (one.0, two.0, one.1, two.1, refl), omega (arith, ints, one.2, two.2));
 }
 
 at_place : (a b : LpView) (row col : ℕ) (value : ℤ) → coefficient b row col ≡ coefficient a row col +ℤ value → ((r k : ℕ) → (r ≢ row) ⊎ (k ≢ col) → coefficient b r k ≡ coefficient a r k) → (r k : ℕ) → (v : ℤ) × IsAt row col value r k v × (coefficient b r k ≡ coefficient a r k +ℤ v)
@@ -48,9 +48,9 @@ at_place a b row col value here others r k =
     elim (cases_eq r row) [
       | inr apart ↦ (pos 0, inr (λ h. apart h.0, refl), omega (arith, ints, others r k (inl apart)))
       | inl same_row ↦ elim (cases_eq k col) [
-          | inr apart ↦ (pos 0, inr (λ h. apart h.1, refl), omega (arith, ints, others r k (inr apart)))
-          | inl same_col ↦ rw (same_row, same_col) (value, inl ((refl, refl), refl), here)
-        ]
+        | inr apart ↦ (pos 0, inr (λ h. apart h.1, refl), omega (arith, ints, others r k (inr apart)))
+        | inl same_col ↦ rw (same_row, same_col) (value, inl ((refl, refl), refl), here)
+      ]
     ]
 
 -- a coefficient that alone is raised

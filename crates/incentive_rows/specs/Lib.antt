@@ -4,6 +4,7 @@ pub mod Leaf
 pub mod Part
 pub mod Places
 pub mod Size
+pub mod Standing
 pub mod Sum
 pub mod Term
 pub mod Trigger

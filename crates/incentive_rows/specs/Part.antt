@@ -6,6 +6,7 @@ use Rattle.connected_pairs.specs.Connected.{PairsView}
 use Rattle.incentive_rows.specs.declared.blocks.Columns.{Columns}
 use Rattle.incentive_rows.specs.declared.rows.Part.{Part}
 use Rattle.incentive_rows.specs.Bounds.{IsWithin}
+use Rattle.incentive_rows.specs.Standing.{Extends}
 
 -- right sides and payoff rows are 0, and coefficients are within 2^42
 pub record AreIncentives (lp : LpView) : Type 0 where
@@ -34,3 +35,4 @@ pub record AddsTo (before after : Part) (rows values : ℕ) : Type 0 where
   pub floor : after.floor ≡ before.floor
   pub columns : after.lp.cols ≡ before.lp.cols
   pub made : AreIncentives after.lp
+  pub extends : Extends before.lp after.lp

@@ -1,5 +1,6 @@
 ghost use Rattle.std.specs.Prelude.{◌≡◌, ◌<◌, ◌≤◌, ◌+◌, ◌^◌, ℕ, pos, length, Some, IfOk};
 ghost use Rattle.corr_game.specs.declared.sides.Side.{Side};
+ghost use Rattle.corr_game.specs.declared.sides.Side.TheVariants.{One, Two};
 ghost use Rattle.corr_game.specs.Game.{sets_of};
 ghost use Rattle.sequences.specs.Number.{side_of};
 ghost use Rattle.lp_form.specs.Program.{payoff_of, right_of};
@@ -7,6 +8,7 @@ ghost use Rattle.connected_pairs.specs.Connected.{IsPairs, IsPairsOf};
 ghost use Rattle.incentive_rows.specs.Bounds.{IsWithin};
 ghost use Rattle.incentive_rows.specs.Part.{AddsTo, AreIncentives, HasRoom};
 ghost use Rattle.incentive_rows.specs.Size.{HasCount, HasCountAt, HasIncentives, HasSize, HasTotal, HasTotalAt, row_each, value_each};
+ghost use Rattle.incentive_rows.specs.Standing.{HasBlocks, HasRowsAtSets, HasRowsFor, HasRowsOf, IsTriggerAt};
 ghost use Rattle.incentive_rows.specs.Trigger.{IsKnown, TriggersAt};
 
 use crate::blocks::{Columns, block};
@@ -33,6 +35,10 @@ pub fn incentives(alloc: Global, game: &Game, pairs: &Pairs, notion: Notion) -> 
     requires size { (rows columns : ℕ) × HasSize game.now pairs.now notion rows columns × (rows ≤ 2048) × (columns ≤ 8192) }
     ensures columns { IfOk result (λ lp. (rows columns : ℕ) → HasSize game.now pairs.now notion rows columns → lp.cols ≡ columns) }
     ensures rows { IfOk result (λ lp. (rows values : ℕ) → HasIncentives game.now pairs.now notion rows values → length lp.rows ≡ rows) }
+    ensures rows_of_one { IfOk result
+        (λ lp. (rows values : ℕ) → HasIncentives game.now pairs.now notion rows values → HasRowsFor notion game.now pairs.now One 0 0 (length pairs.now.pairs + values) lp.cols lp) }
+    ensures rows_of_two { IfOk result
+        (λ lp. (rows values : ℕ) (size : HasIncentives game.now pairs.now notion rows values) → HasRowsFor notion game.now pairs.now Two size.rows_one size.values_one (length pairs.now.pairs + values) lp.cols lp) }
     ensures few_columns { IfOk result (λ lp. lp.cols ≤ 8192) }
     ensures pair_columns { IfOk result (λ lp. length pairs.now.pairs ≤ lp.cols) }
     ensures few_rows { IfOk result (λ lp. length lp.rows ≤ 2048) }
@@ -65,7 +71,9 @@ fn add_player(
     requires rules { IsPairs pairs.now }
     requires before { AreIncentives part.lp }
     requires room { (rows values : ℕ) × HasTotal row_each 1 notion game.now pairs.now side rows × HasTotal value_each 0 notion game.now pairs.now side values × HasRoom pairs.now part rows values }
-    ensures { IfOk result
+    ensures rows { IfOk result
+        (λ more. HasRowsFor notion game.now pairs.now side (length part.lp.rows) part.values part.floor part.lp.cols more.lp) }
+    ensures size { IfOk result
         (λ more. (rows values : ℕ) → HasTotal row_each 1 notion game.now pairs.now side rows → HasTotal value_each 0 notion game.now pairs.now side values → AddsTo part more rows values) }
 {
     match notion {
@@ -94,7 +102,9 @@ fn add_sets(
     requires rules { IsPairs pairs.now }
     requires before { AreIncentives part.lp }
     requires room { (rows values : ℕ) × HasTotalAt row_each 1 notion game.now pairs.now side rows × HasTotalAt value_each 0 notion game.now pairs.now side values × HasRoom pairs.now part rows values }
-    ensures { IfOk result
+    ensures rows { IfOk result
+        (λ more. HasRowsAtSets notion game.now pairs.now side (length (sets_of side game.now)) (length part.lp.rows) part.values part.floor part.lp.cols more.lp) }
+    ensures size { IfOk result
         (λ more. (rows values : ℕ) → HasTotalAt row_each 1 notion game.now pairs.now side rows → HasTotalAt value_each 0 notion game.now pairs.now side values → AddsTo part more rows values) }
 {
     let mut made = part;
@@ -118,7 +128,9 @@ fn add_triggers(
     requires known { at.1.0 < length (sets_of at.0 game.now) }
     requires before { AreIncentives part.lp }
     requires room { (rows values : ℕ) × HasCountAt row_each 1 notion game.now pairs.now at.0 at.1.0 rows × HasCountAt value_each 0 notion game.now pairs.now at.0 at.1.0 values × HasRoom pairs.now part rows values }
-    ensures { IfOk result
+    ensures rows { IfOk result
+        (λ more. (times : ℕ) → TriggersAt notion game.now at.0 at.1.0 times → HasBlocks notion game.now pairs.now at.0 at.1.0 times (length part.lp.rows) part.values part.floor part.lp.cols more.lp) }
+    ensures size { IfOk result
         (λ more. (rows values : ℕ) → HasCountAt row_each 1 notion game.now pairs.now at.0 at.1.0 rows → HasCountAt value_each 0 notion game.now pairs.now at.0 at.1.0 values → AddsTo part more rows values) }
 {
     let mut made = part;
@@ -135,6 +147,7 @@ fn trigger_at(game: &Game, pairs: &Pairs, at: (Side, SetId), notion: Notion, k: 
     requires rules { IsPairs pairs.now }
     requires known { at.1.0 < length (sets_of at.0 game.now) }
     requires in_range { (times : ℕ) × TriggersAt notion game.now at.0 at.1.0 times × (k < times) }
+    ensures trigger { IsTriggerAt notion pairs.now at.0 at.1.0 k result }
     ensures side { result.side ≡ at.0 }
     ensures set { result.set ≡ Some at.1 }
     ensures known { IsKnown pairs.now.seqs result }
@@ -169,7 +182,9 @@ fn add_trigger(
     requires known { IsKnown pairs.now.seqs trigger.now }
     requires before { AreIncentives part.lp }
     requires room { (rows values : ℕ) × HasCount row_each game.now pairs.now trigger.now.side trigger.now.set rows × HasCount value_each game.now pairs.now trigger.now.side trigger.now.set values × HasRoom pairs.now part (rows + 1) values }
-    ensures { IfOk result
+    ensures rows { IfOk result
+        (λ more. HasRowsOf game.now pairs.now trigger.now (length part.lp.rows) part.values part.floor part.lp.cols more.lp) }
+    ensures size { IfOk result
         (λ more. (rows values : ℕ) → HasCount row_each game.now pairs.now trigger.now.side trigger.now.set rows → HasCount value_each game.now pairs.now trigger.now.side trigger.now.set values → AddsTo part more (rows + 1) values) }
 {
     let places = set_places(alloc, game, pairs, trigger.side, trigger.set)?;

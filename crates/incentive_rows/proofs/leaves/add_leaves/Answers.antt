@@ -25,13 +25,13 @@ loop-n-preserved c =
     let part = IsLeafTerm c.args.game.now c.args.pairs.now c.args.trigger.now c.args.places.now.sets.items c.args.places.now.rows in
     elim c.match-node.branch [
       | in-Leaf+in_ok-add_leaf w ↦ rw w.lp-is (
-            grows-on _ c.loop-n.invariant.0 w.in_ok-add_leaf.ensures.grows (omega arith),
-            changes_more (λ r k. part r k) c.loop-n.n c.loop-n.invariant.1 (changes_as w.in_ok-add_leaf.ensures.changes (λ r k v t. (Leaf w.in-Leaf.pay, rw w.in-Leaf.is at c.node.ensures.item, rw w.paid_at-paid.ensures.leaf at t))),
-          )
+        grows-on _ c.loop-n.invariant.0 w.in_ok-add_leaf.ensures.grows (omega arith),
+        changes_more (λ r k. part r k) c.loop-n.n c.loop-n.invariant.1 (changes_as w.in_ok-add_leaf.ensures.changes (λ r k v t. (Leaf w.in-Leaf.pay, rw w.in-Leaf.is at c.node.ensures.item, rw w.paid_at-paid.ensures.leaf at t))),
+      )
       | in_default w ↦ rw w.lp-is (
-          grows-on _ c.loop-n.invariant.0 (grows-none 0 _) (omega arith),
-          changes_more (λ r k. part r k) c.loop-n.n c.loop-n.invariant.1 (changes_none (λ r k. part r k c.loop-n.n) c.loop-n.lp (λ r k. (c.node.result.now, c.node.ensures.item, other_node c.args.pairs.now c.args.trigger.now c.args.places.now.sets.items c.args.places.now.rows c.loop-n.n c.node.result.now r k w.in_default.not-Leaf))),
-        )
+        grows-on _ c.loop-n.invariant.0 (grows-none 0 _) (omega arith),
+        changes_more (λ r k. part r k) c.loop-n.n c.loop-n.invariant.1 (changes_none (λ r k. part r k c.loop-n.n) c.loop-n.lp (λ r k. (c.node.result.now, c.node.ensures.item, other_node c.args.pairs.now c.args.trigger.now c.args.places.now.sets.items c.args.places.now.rows c.loop-n.n c.node.result.now r k w.in_default.not-Leaf))),
+      )
     ]
 
 pub returns-clause-changes : goal.returns-clause-changes

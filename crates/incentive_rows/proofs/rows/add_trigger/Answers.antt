@@ -3,7 +3,7 @@ use Rattle.std.proofs.Common.{length, length-append, refl, ap, ◌∙◌, arith}
 use Rattle.lp_form.specs.Program.{LpView}
 use Rattle.incentive_rows.specs.Size.{row_each, value_each}
 use Rattle.incentive_rows.proofs.Counts.{count_one}
-use Rattle.incentive_rows.proofs.Parts.{joined_made}
+use Rattle.incentive_rows.proofs.Parts.{joined_extends, joined_made, joined_row}
 use Rattle.incentive_rows.proofs.rows.add_trigger.Goals as goal
 
 pub block-requires-clause-apart : goal.block-requires-clause-apart
@@ -34,8 +34,8 @@ overflow_add-result c =
     let values = count_one value_each c.args.game.now c.args.pairs.now t.side t.set _ room.1 c.in_ok-places.ensures.all_values room.3 in
     omega (arith, room.4.for_values, room.4.for_slacks, room.4.few, values)
 
-pub returns : goal.returns
-returns c = λ rows values r v.
+pub returns-clause-size : goal.returns-clause-size
+returns-clause-size c = λ rows values r v.
     let t = c.args.trigger.now in
     let same_rows = count_one row_each c.args.game.now c.args.pairs.now t.side t.set _ rows c.in_ok-places.ensures.all_rows r in
     let same_values = count_one value_each c.args.game.now c.args.pairs.now t.side t.set _ values c.in_ok-places.ensures.all_values v in
@@ -47,4 +47,21 @@ returns c = λ rows values r v.
       floor = refl;
       columns = ap (λ (lp : LpView). lp.cols) both ∙ (c.in_ok-more.ensures.columns ∙ c.cols.ensures.count);
       made = rw both (joined_made c.args.part.lp c.in_ok-more.more c.requires.before c.in_ok-more.ensures.made);
+      extends = rw both (joined_extends c.args.part.lp c.in_ok-more.more);
+    }
+
+pub returns-clause-rows : goal.returns-clause-rows
+returns-clause-rows c =
+    let both = c.in_ok-join.ensures.both in
+    let count = ap (λ (lp : LpView). length lp.rows) both in
+    let base = c.args.part.lp in
+    let more = c.in_ok-more.more in
+    let terms = rw (c.len.ensures.count, c.rows.ensures.count, c.cols.ensures.count) at c.in_ok-more.ensures.terms in
+    record {
+      sets = c.in_ok-places.places.sets.items;
+      value_count = c.in_ok-places.places.values;
+      row_count = c.in_ok-places.places.rows;
+      placed = c.in_ok-places.ensures;
+      inside = omega (arith, count, length-append base.rows more.rows, c.in_ok-more.ensures.rows);
+      terms = λ r k low. rw (both, joined_row base more r) (terms r k);
     }
