@@ -1,5 +1,5 @@
 -- Terms of a matrix: one that is put at a place, two changes one after the other, and a condition said in another way.
-use Rattle.std.proofs.Common.{◌≡◌, ◌≢◌, ◌⊎◌, ℕ, ◌+◌, ◌^◌, ◌≤◌, zero, suc, w64, to_z, of_z, Option, Some, None, ℤ, pos, ◌+ℤ◌, refl, sym, subst, ◌∙◌, inl, inr, arith}
+use Rattle.std.proofs.Common.{◌≡◌, ◌≢◌, ◌⊎◌, ℕ, ◌+◌, ◌^◌, ◌≤◌, w64, to_z, of_z, Option, Some, None, ℤ, pos, ◌+ℤ◌, refl, sym, ◌∙◌, inl, inr, arith}
 use Rattle.std.proofs.Math.Numerals.{add-one}
 use Rattle.std.proofs.lemmas.Bool.{cases_eq}
 use Rattle.std.proofs.lemmas.Int.{ints, to_z-of_z, fits_signed_from_abs}

@@ -24,6 +24,7 @@ pub fn add(lp: &mut Lp, row: u32, col: u32, value: i64) -> Result<(), NoMemory>
     Ok(())
 }
 
+/// Adds 1.
 pub fn add_1(lp: &mut Lp, row: u32, col: u32) -> Result<(), NoMemory>
     requires in_rows { row < length lp.old.rows }
     requires in_columns { col < lp.old.cols }
@@ -35,6 +36,7 @@ pub fn add_1(lp: &mut Lp, row: u32, col: u32) -> Result<(), NoMemory>
     Ok(())
 }
 
+/// Takes 1 away.
 pub fn take_1(lp: &mut Lp, row: u32, col: u32) -> Result<(), NoMemory>
     requires in_rows { row < length lp.old.rows }
     requires in_columns { col < lp.old.cols }

@@ -1,5 +1,5 @@
 -- The numbers that are handed on fit, so the coefficient is raised by the value.
-use Rattle.std.proofs.Common.{◌≡◌, ◌≤◌, ◌^◌, ℤ, ◌+ℤ◌, w64, to_z, of_z, arith}
+use Rattle.std.proofs.Common.{◌≡◌, ◌≤◌, ◌^◌, ◌+ℤ◌, w64, to_z, of_z, arith}
 use Rattle.std.specs.Prelude.{unsigned_abs}
 use Rattle.std.proofs.lemmas.Int.{to_z-of_z}
 use Rattle.lp_form.specs.Program.{coefficient}

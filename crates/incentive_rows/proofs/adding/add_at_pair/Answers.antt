@@ -1,5 +1,5 @@
 -- The value that is handed on is the same, and the column found is the pair's.
-use Rattle.std.proofs.Common.{◌≡◌, ◌^◌, w64, to_z, of_z, sym, ◌∙◌}
+use Rattle.std.proofs.Common.{◌≡◌, ◌^◌, w64, to_z, of_z, sym}
 use Rattle.std.proofs.lemmas.Int.{to_z-of_z}
 use Rattle.incentive_rows.proofs.Terms.{at_found, at_none}
 use Rattle.incentive_rows.proofs.adding.add_at_pair.Goals as goal

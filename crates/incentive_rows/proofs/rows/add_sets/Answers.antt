@@ -1,7 +1,7 @@
 -- The rows of the sets gone over and of the next one are within those of all.
 use Rattle.incentive_rows.specs.Standing.{HasRowsAtSets}
 use Rattle.std.proofs.lemmas.Bool.{cases_lt}
-use Rattle.std.proofs.Common.{◌≡◌, ℕ, ◌<◌, length, subst, sym, inl, inr, arith}
+use Rattle.std.proofs.Common.{◌≡◌, ℕ, length, subst, sym, inl, inr, arith}
 use Rattle.corr_game.specs.Game.{sets_of}
 use Rattle.incentive_rows.specs.Size.{HasCountAt, row_each, value_each}
 use Rattle.incentive_rows.proofs.Sums.{sum_room, sum_split}

@@ -1,7 +1,7 @@
 -- The triggers at a set need the room of one block each.
 use Rattle.incentive_rows.specs.Size.{HasCount, row_each, value_each}
 use Rattle.std.proofs.lemmas.Bool.{cases_lt}
-use Rattle.std.proofs.Common.{◌≡◌, ℕ, ◌<◌, ◌+◌, Some, sym, inl, inr, arith}
+use Rattle.std.proofs.Common.{◌≡◌, ℕ, ◌+◌, Some, sym, inl, inr, arith}
 use Rattle.incentive_rows.proofs.Counts.{times_one}
 use Rattle.incentive_rows.proofs.Parts.{adds_as, adds_none, adds_on, one_more_of, room_left, rows_as, rows_kept}
 use Rattle.incentive_rows.proofs.rows.add_triggers.Goals as goal
