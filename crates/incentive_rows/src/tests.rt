@@ -1,4 +1,4 @@
-ghost use Rattle.std.specs.Prelude.{IfOk};
+ghost use Rattle.std.specs.Prelude.{◌<◌, length, IfOk};
 ghost use Rattle.connected_pairs.specs.Connected.{IsPairsOf};
 
 use crate::rows::incentives;
@@ -6,7 +6,7 @@ use crate::sizes::program_size;
 use connected_pairs::Pairs;
 use corr_game::{Game, Notion};
 use lp_form::Lp;
-use sample_games::{chicken, one_card};
+use sample_games::{chain, chicken, one_card};
 use sequences::Seqs;
 use std::alloc::Global;
 use std::process::Abort;
@@ -38,6 +38,24 @@ fn rows_of(
     Ok(incentives(alloc, game, pairs, notion)?)
 }
 
+/// The value that these entries have in a column, and 0 elsewhere.
+fn entry_at(entries: &[(u32, i64)], col: u32) -> i64 {
+    for (at, value) in entries {
+        if *at == col {
+            return *value;
+        }
+    }
+    0
+}
+
+fn row_is(rt: &impl Abort, lp: &Lp, row: u32, entries: &[(u32, i64)])
+    requires { row < length lp.now.rows }
+{
+    for col in 0..lp.cols() {
+        assert_eq!(rt; lp.coef(row, col), entry_at(entries, col), "at {row} {col}");
+    }
+}
+
 // The incentive rows of Chicken as they are published with the format: nine pairs, two values, the floor, six slacks.
 #[test]
 fn chicken_entry_by_entry(rt: HostRuntime) -> Result<(), Fail> {
@@ -45,19 +63,63 @@ fn chicken_entry_by_entry(rt: HostRuntime) -> Result<(), Fail> {
     let lp = rows_of(&rt, rt.alloc(), &game, Notion::Efcce, (13, 18))?;
     assert_eq!(rt; lp.rows(), 6);
     assert_eq!(rt; lp.cols(), 18);
-    let rows = [
-        [0, 0, -7, 0, 0, 0, 0, 0, 0, 1, 0, -1, -1, 0, 0, 0, 0, 0],
-        [0, -2, -6, 0, 0, 0, 0, 0, 0, 1, 0, -1, 0, -1, 0, 0, 0, 0],
-        [0, 0, 0, 0, 0, 7, 0, 2, 6, -1, 0, 1, 0, 0, -1, 0, 0, 0],
-        [0, 0, 0, 0, 0, 0, -7, 0, 0, 0, 1, -1, 0, 0, 0, -1, 0, 0],
-        [0, 0, 0, -2, 0, 0, -6, 0, 0, 0, 1, -1, 0, 0, 0, 0, -1, 0],
-        [0, 0, 0, 0, 0, 2, 0, 7, 6, 0, -1, 1, 0, 0, 0, 0, 0, -1],
-    ];
-    for row in 0..6 {
-        for col in 0..18 {
-            assert_eq!(rt; lp.coef(row, col), rows[row as usize][col as usize]);
-        }
-    }
+    row_is(&rt, &lp, 0, &[(9, 1), (2, -7), (11, -1), (12, -1)]);
+    row_is(&rt, &lp, 1, &[(9, 1), (1, -2), (2, -6), (11, -1), (13, -1)]);
+    row_is(
+        &rt,
+        &lp,
+        2,
+        &[(5, 7), (7, 2), (8, 6), (9, -1), (11, 1), (14, -1)],
+    );
+    row_is(&rt, &lp, 3, &[(10, 1), (6, -7), (11, -1), (15, -1)]);
+    row_is(
+        &rt,
+        &lp,
+        4,
+        &[(10, 1), (3, -2), (6, -6), (11, -1), (16, -1)],
+    );
+    row_is(
+        &rt,
+        &lp,
+        5,
+        &[(5, 2), (7, 7), (8, 6), (10, -1), (11, 1), (17, -1)],
+    );
+    Ok(())
+}
+
+// Three moves in turn, before play begins, by hand: fifteen pairs, three values, the floor, eight slacks. Player 1's
+// second set stands below the first, whose value takes the second's in.
+#[test]
+fn a_chain_entry_by_entry(rt: HostRuntime) -> Result<(), Fail> {
+    let game = chain(rt.alloc())?;
+    let efce = rows_of(&rt, rt.alloc(), &game, Notion::Efce, (34, 46))?;
+    assert_eq!(rt; efce.rows(), 22);
+    let lp = rows_of(&rt, rt.alloc(), &game, Notion::Nfcce, (20, 27))?;
+    assert_eq!(rt; lp.rows(), 8);
+    assert_eq!(rt; lp.cols(), 27);
+    row_is(&rt, &lp, 0, &[(15, 1), (0, -1), (18, -1), (19, -1)]);
+    row_is(&rt, &lp, 1, &[(15, 1), (16, -1), (20, -1)]);
+    row_is(&rt, &lp, 2, &[(16, 1), (2, -3), (18, -1), (21, -1)]);
+    row_is(&rt, &lp, 3, &[(16, 1), (2, -2), (18, -1), (22, -1)]);
+    row_is(
+        &rt,
+        &lp,
+        4,
+        &[(3, 1), (11, 3), (14, 2), (15, -1), (18, 1), (23, -1)],
+    );
+    row_is(&rt, &lp, 5, &[(17, 1), (6, -2), (18, -1), (24, -1)]);
+    row_is(
+        &rt,
+        &lp,
+        6,
+        &[(17, 1), (9, -1), (12, -4), (18, -1), (25, -1)],
+    );
+    row_is(
+        &rt,
+        &lp,
+        7,
+        &[(7, 2), (11, 1), (14, 4), (17, -1), (18, 1), (26, -1)],
+    );
     Ok(())
 }
 
