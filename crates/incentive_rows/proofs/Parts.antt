@@ -16,9 +16,9 @@ use Rattle.corr_game.specs.Game.{GameView}
 use Rattle.connected_pairs.specs.Connected.{PairsView}
 use Rattle.incentive_rows.specs.declared.rows.Part.{Part}
 use Rattle.incentive_rows.specs.declared.triggers.Trigger.{Trigger}
-use Rattle.incentive_rows.specs.Standing.{Extends, HasRowsFor, HasRowsOf}
+use Rattle.incentive_rows.specs.Standing.{HasRowsFor, HasRowsOf}
 use Rattle.incentive_rows.specs.Bounds.{IsWithin, Grows}
-use Rattle.incentive_rows.specs.Part.{AddsTo, AreIncentives, HasRoom}
+use Rattle.incentive_rows.specs.Part.{AddsTo, AreIncentives, Extends, HasRoom}
 
 pub same_all : {X : Type 0} (n i : ℕ) (x : X) → get_or (replicate n x) i x ≡ x
 same_all zero i x = refl

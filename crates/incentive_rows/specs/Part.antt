@@ -1,12 +1,11 @@
 -- The incentive rows that are made so far, and the room that the program's columns leave for further ones.
 use Rattle.std.specs.Prelude.{◌≡◌, ℕ, ◌+◌, ◌^◌, ◌<◌, ◌≤◌, length, pos}
 use Rattle.corr_game.specs.declared.sides.Side.{Side}
-use Rattle.lp_form.specs.Program.{LpView, right_of, payoff_of}
+use Rattle.lp_form.specs.Program.{LpView, entries_of, right_of, payoff_of}
 use Rattle.connected_pairs.specs.Connected.{PairsView}
 use Rattle.incentive_rows.specs.declared.blocks.Columns.{Columns}
 use Rattle.incentive_rows.specs.declared.rows.Part.{Part}
 use Rattle.incentive_rows.specs.Bounds.{IsWithin}
-use Rattle.incentive_rows.specs.Standing.{Extends}
 
 -- right sides and payoff rows are 0, and coefficients are within 2^42
 pub record AreIncentives (lp : LpView) : Type 0 where
@@ -27,6 +26,11 @@ pub record HasRoom (p : PairsView) (part : Part) (rows values : ℕ) : Type 0 wh
   pub for_values : length p.pairs + part.values + values ≤ part.floor
   pub for_slacks : part.floor + 1 + length part.lp.rows + rows ≤ part.lp.cols
   pub few : part.lp.cols ≤ 8192
+
+-- the rows of one program are the first ones of another
+pub record Extends (before after : LpView) : Type 0 where
+  pub more : length before.rows ≤ length after.rows
+  pub same : (r : ℕ) → r < length before.rows → entries_of after r ≡ entries_of before r
 
 -- so many rows and values were added
 pub record AddsTo (before after : Part) (rows values : ℕ) : Type 0 where

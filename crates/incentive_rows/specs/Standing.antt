@@ -7,7 +7,7 @@ use Rattle.corr_game.specs.declared.notions.Notion.TheVariants.{Efce, Efcce, Nfc
 use Rattle.corr_game.specs.declared.sides.Side.{Side}
 use Rattle.corr_game.specs.Game.{GameView, sets_of}
 use Rattle.sequences.specs.Number.{Ends, IsOwn, side_of}
-use Rattle.lp_form.specs.Program.{LpView, coefficient, entries_of}
+use Rattle.lp_form.specs.Program.{LpView, coefficient}
 use Rattle.connected_pairs.specs.Connected.{PairsView}
 use Rattle.incentive_rows.specs.declared.places.SetPlace.{SetPlace}
 use Rattle.incentive_rows.specs.declared.triggers.Trigger.{Trigger}
@@ -77,8 +77,3 @@ abbrev pub HasRowsFor : Notion → GameView → PairsView → Side → ℕ → �
 HasRowsFor Efce g p side rows values floor cols lp = HasRowsAtSets Efce g p side (length (sets_of side g)) rows values floor cols lp
 HasRowsFor Efcce g p side rows values floor cols lp = HasRowsAtSets Efcce g p side (length (sets_of side g)) rows values floor cols lp
 HasRowsFor Nfcce g p side rows values floor cols lp = HasRowsOf g p (at_start side) rows values floor cols lp
-
--- the rows of one program are the first ones of another
-pub record Extends (before after : LpView) : Type 0 where
-  pub more : length before.rows ≤ length after.rows
-  pub same : (r : ℕ) → r < length before.rows → entries_of after r ≡ entries_of before r
