@@ -2,7 +2,6 @@ ghost use Rattle.std.specs.Prelude.{◌≡◌, ◌<◌, ◌≤◌, ◌+◌, ◌^
 ghost use Rattle.corr_game.specs.declared.sides.Side.{Side};
 ghost use Rattle.corr_game.specs.declared.sides.Side.TheVariants.{One, Two};
 ghost use Rattle.corr_game.specs.Game.{sets_of};
-ghost use Rattle.sequences.specs.Number.{side_of};
 ghost use Rattle.lp_form.specs.Program.{payoff_of, right_of};
 ghost use Rattle.connected_pairs.specs.Connected.{IsPairs, IsPairsOf};
 ghost use Rattle.incentive_rows.specs.Bounds.{IsWithin};

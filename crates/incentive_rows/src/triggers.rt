@@ -1,4 +1,4 @@
-ghost use Rattle.std.specs.Prelude.{◌≡◌, ◌<◌, ◌↔◌, IsTrue, length};
+ghost use Rattle.std.specs.Prelude.{◌<◌, ◌↔◌, IsTrue, length};
 ghost use Rattle.sequences.specs.Number.{Holds, count_of, side_of};
 ghost use Rattle.connected_pairs.specs.Connected.{IsPrefix};
 ghost use Rattle.incentive_rows.specs.Trigger.{Follows, HasSet};
