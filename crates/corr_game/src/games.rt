@@ -121,6 +121,7 @@ impl Game {
     /// By how much the file's payoffs of this player were multiplied.
     pub fn scale(&self, side: Side) -> i64
         ensures number { result ≡ scale_of side self.now }
+        ensures rules { IsGame self.now }
     {
         match side {
             Side::One => self.scale_one,

@@ -101,8 +101,6 @@ fn report_of(game: &Game, blocks: BlockList) -> Report
     ensures ranges { IsReport result }
     ensures blocks { result.blocks ≡ blocks }
 {
-    // `len` hands on the rules of the game, `scale` doesn't.
-    let _ = game.len();
     Report {
         scale_one: game.scale(Side::One),
         scale_two: game.scale(Side::Two),

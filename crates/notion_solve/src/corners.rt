@@ -47,8 +47,6 @@ fn scale_of(game: &Game, side: Side) -> i64
     ensures scale { IsScale result }
     ensures rules { IsGame game.now }
 {
-    // `len` hands on the rules of the game, `scale` doesn't.
-    let _ = game.len();
     game.scale(side)
 }
 

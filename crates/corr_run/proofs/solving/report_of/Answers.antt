@@ -6,7 +6,7 @@ use Rattle.corr_run.proofs.solving.report_of.Goals as goal
 
 pub returns-clause-ranges : goal.returns-clause-ranges
 returns-clause-ranges c =
-    let rules = c.len.ensures.rules in
+    let rules = c.scale.ensures.rules in
     let selected = c.requires.selected in
     record {
       scale_one = scale_kept c.scale.result (rw c.scale.ensures.number (rules.each_scale One));
