@@ -6,15 +6,6 @@ use std::test::Fail;
 
 const ONE: &[u8] = b"EFG 2 R \"One\" { \"A\" \"B\" }\n\"\"\nt \"\" 1 \"\" { 3, 4 }\n";
 
-const CHICKEN: &[u8] = b"EFG 2 R \"Chicken\" { \"Row\" \"Column\" }\n\"\"\n\
-p \"\" 1 1 \"\" { \"D\" \"C\" } 0\n\
-p \"\" 2 1 \"\" { \"D\" \"C\" } 0\n\
-t \"\" 1 \"\" { 0, 0 }\n\
-t \"\" 2 \"\" { 7, 2 }\n\
-p \"\" 2 1 \"\" { \"D\" \"C\" } 0\n\
-t \"\" 3 \"\" { 2, 7 }\n\
-t \"\" 4 \"\" { 6, 6 }\n";
-
 const ONE_REPORT: &[u8] = b"corr-report 1\n\
 scale 1 1\n\
 notion efce found\n\
@@ -76,9 +67,37 @@ first 3 0 0\n\
 second 4 0 0\n\
 end\n";
 
-fn one_word(alloc: Global, word: &str) -> Result<Vec<String>, Fail> {
+const NFCCE_REPORT: &[u8] = b"corr-report 1\n\
+scale 1 1\n\
+notion nfcce found\n\
+corners 1\n\
+corner 0 3 4 total 1 pairs 1\n\
+weight 1\n\
+one\n\
+two\n\
+sides 4\n\
+side 1 0 corner 0 den 1\n\
+first 3 0 0\n\
+second 4 0 0\n\
+side 0 1 corner 0 den 1\n\
+first 3 0 0\n\
+second 4 0 0\n\
+side -1 0 corner 0 den 1\n\
+first 3 0 0\n\
+second 4 0 0\n\
+side 0 -1 corner 0 den 1\n\
+first 3 0 0\n\
+second 4 0 0\n\
+end\n";
+
+const USAGE: &[u8] =
+    b"usage: corr solve|check|gen|work [--notion efce|efcce|nfcce] [--kind public|dilemma|chain] [--n N] [--seed N]\n";
+
+fn words_of(alloc: Global, texts: &[&str]) -> Result<Vec<String>, Fail> {
     let mut words = Vec::new(alloc);
-    words.push(String::from_str(alloc, word)?)?;
+    for text in texts {
+        words.push(String::from_str(alloc, text)?)?;
+    }
     Ok(words)
 }
 
@@ -86,12 +105,12 @@ fn one_word(alloc: Global, word: &str) -> Result<Vec<String>, Fail> {
 fn expect_run(
     rt: &impl Abort,
     alloc: Global,
-    word: &str,
+    words: &[&str],
     input: &[u8],
     text: &[u8],
     status: Status,
 ) -> Result<(), Fail> {
-    let words = one_word(alloc, word)?;
+    let words = words_of(alloc, words)?;
     let mut source = SureSource::new(Vec::from_slice(alloc, input)?, 1000);
     let mut sink = SureSink::new(alloc, 1000);
     assert_eq!(rt; run(alloc, &words, &mut source, &mut sink), status);
@@ -102,33 +121,23 @@ fn expect_run(
 #[test]
 fn each_case_has_its_text_and_status(rt: HostRuntime) -> Result<(), Fail> {
     let alloc = rt.alloc();
-    let usage =
-        b"usage: corr solve|check|gen|work [--notion efce|efcce|nfcce] [--kind public|dilemma|chain] [--n N] [--seed N]\n";
-    expect_run(&rt, alloc, "solve", ONE, ONE_REPORT, Status::Solved)?;
-    expect_run(
-        &rt,
-        alloc,
-        "solve",
-        CHICKEN,
-        b"refused NotBuilt\n",
-        Status::Refused,
-    )?;
-    expect_run(&rt, alloc, "sove", ONE, usage, Status::Usage)?;
     let spaces = vec![in alloc; b' '; 4194305]?;
+    let other_form: &[u8] = b"EFG 2 D \"x\" { \"A\" \"B\" }";
+    let no_place: &[u8] = b"refused Syntax byte 6\n";
+    let too_long: &[u8] = b"refused InputTooLong 4194304\n";
+    let only: &[&str] = &["solve", "--notion", "nfcce"];
+    let misnamed: &[&str] = &["solve", "--notion", "nfce"];
+    expect_run(&rt, alloc, &["solve"], ONE, ONE_REPORT, Status::Solved)?;
+    expect_run(&rt, alloc, only, ONE, NFCCE_REPORT, Status::Solved)?;
+    expect_run(&rt, alloc, only, other_form, no_place, Status::Refused)?;
+    expect_run(&rt, alloc, misnamed, ONE, USAGE, Status::Usage)?;
+    expect_run(&rt, alloc, &["sove"], ONE, USAGE, Status::Usage)?;
     expect_run(
         &rt,
         alloc,
-        "solve",
+        &["solve"],
         spaces.as_slice(),
-        b"refused InputTooLong 4194304\n",
-        Status::Refused,
-    )?;
-    expect_run(
-        &rt,
-        alloc,
-        "solve",
-        &spaces[1..],
-        b"refused NotBuilt\n",
+        too_long,
         Status::Refused,
     )
 }
@@ -136,7 +145,7 @@ fn each_case_has_its_text_and_status(rt: HostRuntime) -> Result<(), Fail> {
 #[test]
 fn a_fault_leaves_a_front_of_the_text(rt: HostRuntime) -> Result<(), Fail> {
     let alloc = rt.alloc();
-    let words = one_word(alloc, "solve")?;
+    let words = words_of(alloc, &["solve"])?;
     let mut source = SureSource::new(Vec::from_slice(alloc, ONE)?, 7);
     let mut failing = MemSink::new(alloc, 16, vec![in alloc; 1u64]?);
     assert_eq!(rt;
@@ -160,12 +169,13 @@ fn statuses_have_their_exit_numbers(rt: HostRuntime) {
     let all = [
         Status::Solved,
         Status::Refused,
+        Status::TooWide,
         Status::Usage,
         Status::NoMemory,
         Status::ReadFault,
         Status::WriteFault,
     ];
-    let numbers = [0u8, 2, 64, 70, 72, 74];
+    let numbers = [0u8, 2, 3, 64, 70, 72, 74];
     for (status, number) in all.iter().zip(numbers) {
         assert_eq!(rt; status.code(), number);
     }
