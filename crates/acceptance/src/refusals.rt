@@ -1,0 +1,150 @@
+// Files that are refused, and the line that says why.
+use crate::runs::expect_text;
+use corr_run::Status;
+use std::alloc::{AllocError, Global};
+use std::test::Fail;
+
+/// Two letters are drawn, and each player sees one of them.
+const LETTERS: &str = r#"EFG 2 R "Letters" { "A" "B" }
+c "" 1 { "aa" 1/4 "ab" 1/4 "ba" 1/4 "bb" 1/4 } 0
+p "" 1 1 { "x" "y" } 0
+p "" 2 1 { "x" "y" } 0
+t "" 0
+t "" 0
+p "" 2 1 0
+t "" 0
+t "" 0
+p "" 1 1 0
+p "" 2 2 { "x" "y" } 0
+t "" 0
+t "" 0
+p "" 2 2 0
+t "" 0
+t "" 0
+p "" 1 2 { "x" "y" } 0
+p "" 2 1 0
+t "" 0
+t "" 0
+p "" 2 1 0
+t "" 0
+t "" 0
+p "" 1 2 0
+p "" 2 2 0
+t "" 0
+t "" 0
+p "" 2 2 0
+t "" 0
+t "" 0
+"#;
+
+/// The second set of player 1 stands behind both of the player's first moves.
+const FORGETFUL: &str = r#"EFG 2 R "Forget" { "A" "B" }
+p "" 1 1 { "L" "R" } 0
+p "" 2 1 { "m" } 0
+p "" 1 2 { "a" } 0
+t "" 0
+p "" 2 1 0
+p "" 1 2 0
+t "" 0
+"#;
+
+/// The root's set holds the root's kid too.
+const ABSENT: &str = r#"EFG 2 R "Absent" { "A" "B" }
+p "" 1 1 { "L" "R" } 0
+p "" 1 1 0
+t "" 0
+t "" 0
+t "" 0
+"#;
+
+const THIRDS: &str = r#"EFG 2 R "Thirds" { "A" "B" }
+c "" 1 { "a" 0.333333 "b" 0.333333 "c" 0.333333 } 0
+t "" 0
+t "" 0
+t "" 0
+"#;
+
+const TWICE: &str = r#"EFG 2 R "One" { "A" "B" }
+""
+t "" 1 "" { 3, 4 }
+t "" 1 "" { 3, 4 }
+"#;
+
+const UNFINISHED: &str = r#"EFG 2 R "Unfinished" { "A" "B" }
+p "" 1 1 { "L" "R" } 0
+t "" 0
+"#;
+
+const TOO_FINE: &str = r#"EFG 2 R "Fine" { "A" "B" }
+p "" 1 1 { "L" "R" } 0
+t "" 1 { 1/16777216 0 }
+t "" 2 { 1/3 0 }
+"#;
+
+const TOO_LARGE: &str = r#"EFG 2 R "Large" { "A" "B" }
+p "" 1 1 { "L" "R" } 0
+t "" 1 { 1099511627776 0 }
+t "" 2 { 1/2 0 }
+"#;
+
+const OVER_LIMIT: &str = r#"EFG 2 R "Wide" { "A" "B" }
+p "" 1 1 { "L" "R" } 0
+t "" 1 { 1/16777217 0 }
+t "" 2 { 0 0 }
+"#;
+
+const PATH_TOO_FINE: &str = r#"EFG 2 R "Path" { "A" "B" }
+p "" 1 1 { "L" } 1 { 1/16777216 0 }
+t "" 2 { 1/3 0 }
+"#;
+
+#[test]
+fn each_file_has_its_line(rt: HostRuntime) -> Result<(), Fail> {
+    let table = [
+        (LETTERS, "refused Triangle sets 1 2 1 2\n"),
+        (
+            "EFG 2 R \"Three\" { \"A\" \"B\" \"C\" }\nt \"\" 0\n",
+            "refused Players 3\n",
+        ),
+        (FORGETFUL, "refused Forgets player 1 set 2 nodes 2 5\n"),
+        (ABSENT, "refused Forgets player 1 set 1 nodes 0 1\n"),
+        (THIRDS, "refused ChanceSum node 0\n"),
+        ("EFG 2 R \"Cut\" { \"A\" \"B", "refused Syntax byte 20\n"),
+        ("EFG 2 R \"Cut\" { \"A\" \"B\"", "refused Syntax byte 23\n"),
+        ("", "refused Syntax byte 0\n"),
+        ("EFG 2 D \"x\" { \"A\" \"B\" }", "refused Syntax byte 6\n"),
+        (TWICE, "refused ExtraNode node 1\n"),
+        (UNFINISHED, "refused MissingNode node 2\n"),
+        (TOO_FINE, "refused ScaleTooLarge player 1\n"),
+        (TOO_LARGE, "refused AmountTooLarge node 1\n"),
+        (OVER_LIMIT, "refused NumberTooWide node 1\n"),
+        (PATH_TOO_FINE, "refused PathTooFine node 1\n"),
+    ];
+    for (input, line) in table {
+        expect_text(&rt, rt.alloc(), input, line, Status::Refused)?;
+    }
+    Ok(())
+}
+
+/// A path of moves of player 1, each with one action and a set of its own.
+fn path(alloc: Global, moves: u32) -> Result<String, AllocError> {
+    let mut text = String::from_str(alloc, "EFG 2 R \"Path\" { \"A\" \"B\" }\n")?;
+    for set in 0..moves {
+        let line = format!(in alloc; "p \"\" 1 {set} {{ \"on\" }} 0\n")?;
+        text.push_str(line.as_str())?;
+    }
+    text.push_str("t \"\" 0\n")?;
+    Ok(text)
+}
+
+#[test]
+fn a_path_is_too_deep(rt: HostRuntime) -> Result<(), Fail> {
+    let text = path(rt.alloc(), 257)?;
+    expect_text(
+        &rt,
+        rt.alloc(),
+        text.as_str(),
+        "refused TooDeep node 257\n",
+        Status::Refused,
+    )
+}
