@@ -5,11 +5,23 @@
 #![tactic(auto)]
 
 #[cfg(test)]
+mod certificates;
+#[cfg(test)]
+mod deviations;
+#[cfg(test)]
+mod equilibria;
+#[cfg(test)]
+mod exact;
+#[cfg(test)]
 mod families;
 #[cfg(test)]
 mod games;
 #[cfg(test)]
 mod generated;
+#[cfg(test)]
+mod opened;
+#[cfg(test)]
+mod paths;
 #[cfg(test)]
 mod refusals;
 #[cfg(test)]
