@@ -14,3 +14,6 @@ pub use angles::cmp_angle;
 pub use belts::{BeltFault, belt};
 pub use directions::Dir;
 pub use sides::{Point, SideList, SideRow};
+
+#[cfg(test)]
+mod tests;
