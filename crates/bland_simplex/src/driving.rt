@@ -1,5 +1,5 @@
 // Artificial columns are driven out of the basis.
-ghost use Rattle.std.specs.Prelude.{◌≡◌, ◌≢◌, ℕ, ◌<◌, pos, MatchOption, IfSome, OnOk, None};
+ghost use Rattle.std.specs.Prelude.{◌≡◌, ◌≢◌, ℕ, ◌<◌, pos, true, MatchOption, IfSome, IsSome, OnOk, None};
 ghost use Rattle.bland_simplex.specs.Open.{IsOpen};
 ghost use Rattle.bland_simplex.specs.Driven.{IsDriven};
 
@@ -14,7 +14,15 @@ struct Candidate {
     magnitude: u128,
 }
 
-/// The candidate, or an entry of this row that is smaller: the first of the least magnitude in the program's columns.
+/// Whether nothing is smaller: the search may stop.
+fn is_least(found: Option<Candidate>) -> bool
+    ensures { result ≡ true → IsSome found }
+{
+    matches!(found, Some(Candidate { magnitude: 1, .. }))
+}
+
+/// The candidate, or an entry of this row that is smaller: the first of the least magnitude in the program's columns. It stops at
+/// a magnitude of 1.
 fn smaller_in_row<T: Tableau>(
     table: &T,
     shape: Shape,
@@ -39,6 +47,9 @@ fn smaller_in_row<T: Tableau>(
                 col,
                 magnitude,
             });
+            if magnitude == 1 {
+                return least;
+            }
         }
     }
     least
@@ -53,6 +64,9 @@ fn smallest<T: Tableau>(table: &T, shape: Shape) -> Option<Candidate>
     for row in 0..shape.rows {
         if table.basic(row) >= shape.cols {
             least = smaller_in_row(table, shape, row, least);
+            if is_least(least) {
+                return least;
+            }
         }
     }
     least

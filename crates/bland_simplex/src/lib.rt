@@ -17,3 +17,6 @@ pub use lp_form::NumList;
 pub use plane_hull::Dir;
 pub use shapes::{Shape, TURNS};
 pub use turning::best;
+
+#[cfg(test)]
+mod tests;
