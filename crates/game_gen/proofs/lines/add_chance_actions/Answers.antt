@@ -1,0 +1,12 @@
+-- The loop has added the texts of the numbers before this one.
+use Rattle.text_pieces.proofs.Pieces.{Adds-nil}
+use Rattle.game_gen.specs.GameText.{below_text, chance_action}
+use Rattle.game_gen.proofs.Steps.{Adds-next}
+use Rattle.game_gen.proofs.lines.add_chance_actions.Goals as goal
+
+pub loop-outcome-init : goal.loop-outcome-init
+unfolding below_text
+loop-outcome-init c = Adds-nil c.args.out.now.items
+
+pub loop-outcome-preserved : goal.loop-outcome-preserved
+loop-outcome-preserved c = Adds-next (chance_action c.args.n) c.loop-outcome.outcome c.loop-outcome.invariant c.in_ok-add_chance_action.ensures

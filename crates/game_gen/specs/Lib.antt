@@ -1,0 +1,3 @@
+pub mod GameText
+pub mod Random
+pub mod Refused
