@@ -9,7 +9,7 @@ use Rattle.corr_game.specs.Plan.{IsPlan}
 use Rattle.plan_decompose.specs.Walk.{IsActionOf}
 
 -- an entry is none, so it names no action
-nothing_named : (n k action : ℕ) → slice_get (replicate {A = Option ℕ} n None) k ≡ Some (Some action) → ⊥
+pub nothing_named : (n k action : ℕ) → slice_get (replicate {A = Option ℕ} n None) k ≡ Some (Some action) → ⊥
 nothing_named n k action e =
     let none : Option ℕ = None in
     let plan : List (Option ℕ) = replicate n none in

@@ -8,15 +8,18 @@ use Rattle.corr_game.specs.Plan.{IsPlan}
 use Rattle.corr_num.specs.Narrow.{Narrow}
 use Rattle.sequences.specs.Number.{SeqsView, Plays}
 use Rattle.connected_pairs.specs.Connected.{PairsView}
+use Rattle.plan_decompose.specs.Reduced.{IsReduced}
 
 -- each plan plays its player's sequence of the pair
 abbrev pub PlayBoth : SeqsView → List (Option ℕ) → List (Option ℕ) → ℕ × ℕ → Type 0
 PlayBoth s one two pair = Plays s.one one pair.0 × Plays s.two two pair.1
 
--- a plan of each player, with a weight of 1 or more that is narrow
-pub record IsEntry (g : GameView) (entry : Pair) : Type 0 where
+-- a reduced plan of each player, with a weight of 1 or more that is narrow
+pub record IsEntry (g : GameView) (s : SeqsView) (entry : Pair) : Type 0 where
   pub plan_one : IsPlan One g entry.one
   pub plan_two : IsPlan Two g entry.two
+  pub reduced_one : IsReduced s.one entry.one
+  pub reduced_two : IsReduced s.two entry.two
   pub positive : pos 1 ≤ℤ entry.weight
   pub narrow : Narrow entry.weight
 

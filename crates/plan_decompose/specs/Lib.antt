@@ -1,3 +1,4 @@
 pub mod Entry
-pub mod OpenSet
+pub mod OpenSets
+pub mod Reduced
 pub mod Walk

@@ -20,7 +20,7 @@ pub fn decompose(
     requires whose { IsPairsOf game.now pairs.now }
     requires per_pair { length values ≡ length pairs.now.pairs }
     requires narrow { All Narrow values }
-    ensures entries { IfOk result (λ list. All (IsEntry game.now) list) }
+    ensures entries { IfOk result (λ list. All (IsEntry game.now pairs.now.seqs) list) }
     ensures sums { IfOk result
         (λ list. (k : ℕ) (pair : ℕ × ℕ) → slice_get pairs.now.pairs k ≡ Some pair → SumsTo pairs.now.seqs pair list (slice_index_or values k (pos 0))) }
     ensures some { IfOk result (λ list. 1 ≤ length list) }

@@ -1,6 +1,6 @@
 ghost use Rattle.std.specs.Prelude.{◌≡◌, ◌<◌, ◌↔◌, ◌≤ℤ◌, ℕ, pos, length, slice_get, slice_index_or, All, IfOk, IsTrue, Some};
 ghost use Rattle.corr_num.specs.Narrow.{Narrow};
-ghost use Rattle.connected_pairs.specs.Connected.{IsPairsOf};
+ghost use Rattle.connected_pairs.specs.Connected.{IsPairs, IsPairsOf};
 ghost use Rattle.plan_decompose.specs.Entry.{AreTakenOff, IsEntry, PlayBoth};
 
 use crate::ends::DecomposeEnd;
@@ -18,10 +18,11 @@ pub fn take_entry(
     values: &mut [i128],
 ) -> Result<Pair, DecomposeEnd>
     requires whose { IsPairsOf game.now pairs.now }
+    requires rules { IsPairs pairs.now }
     requires per_pair { length values.old ≡ length pairs.now.pairs }
     requires some { 0 < length pairs.now.pairs }
     requires narrow { All Narrow values.old }
-    ensures entry { IfOk result (λ entry. IsEntry game.now entry) }
+    ensures entry { IfOk result (λ entry. IsEntry game.now pairs.now.seqs entry) }
     ensures taken { IfOk result
         (λ entry. AreTakenOff pairs.now entry.one entry.two entry.weight values.old values.new) }
     ensures narrow { IfOk result (λ _. All Narrow values.new) }

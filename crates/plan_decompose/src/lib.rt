@@ -5,10 +5,11 @@
 //! The layer above uses `decompose`, and `pick` for one pair of plans.
 #![tactic(auto)]
 
+mod actions;
 mod decompositions;
 mod ends;
 mod entries;
-mod open_sets;
+mod opens;
 mod picks;
 mod walks;
 

@@ -1,132 +1,160 @@
-ghost use Rattle.std.specs.Prelude.{◌≡◌, ◌<◌, ℕ, pos, ◌<ℤ◌, length, slice_get, Some, All, IfOk, IfSome, OnOk};
-ghost use Rattle.corr_game.specs.Game.{sets_of};
-ghost use Rattle.sequences.specs.Number.{count_of, side_of};
+ghost use Rattle.std.specs.Prelude.{◌≡◌, ◌<◌, ◌+◌, length, slice_get, Some, IfNone, IfOk, IfSome, OnOk};
+ghost use Rattle.corr_game.specs.declared.sides.Side.TheVariants.{One, Two};
+ghost use Rattle.sequences.specs.Number.{Ends, side_of};
 ghost use Rattle.connected_pairs.specs.Connected.{IsPairs, IsPairsOf, other};
-ghost use Rattle.plan_decompose.specs.OpenSet.{IsOpen};
-ghost use Rattle.plan_decompose.specs.Walk.{IsWalk, IsActionOf};
+ghost use Rattle.plan_decompose.specs.Walk.{IsActionOf, IsOpenOf, IsSideWalk, IsWalk, NoneOpen, unchosen};
 
+use crate::actions::positive_action;
 use crate::ends::DecomposeEnd;
-use crate::open_sets::{Open, joined, open_after, other_side};
+use crate::opens::{Open, first_open, move_beside, only_joined, open_after};
 use connected_pairs::Pairs;
-use corr_game::{Game, SetId, Side};
+use corr_game::{Game, Side};
 use std::alloc::{AllocError as NoMemory, Global};
 
-/// The actions chosen so far, by set, and the sets that they leave open.
+/// One player's part of a walk, by set.
+#[derive(Debug, Drop)]
+pub struct SideWalk {
+    /// The action chosen at the set, if there is one yet.
+    pub actions: Vec<Option<u32>>,
+    /// Where the set is open, the sequence of the other player that stands beside it.
+    pub beside: Vec<Option<u32>>,
+}
+
+/// A walk that chooses a plan of each player, set by set. A set is open where the actions chosen so far lead to it and
+/// its own isn't chosen yet.
 #[derive(Debug, Drop)]
 pub struct Walk {
-    pub one: Vec<Option<u32>>,
-    pub two: Vec<Option<u32>>,
-    pub opened: Vec<Open>,
+    pub one: SideWalk,
+    pub two: SideWalk,
+}
+
+impl SideWalk {
+    fn start(alloc: Global, game: &Game, pairs: &Pairs, side: Side) -> Result<SideWalk, NoMemory>
+        requires { IsPairsOf game.now pairs.now }
+        ensures { IfOk result (λ walk. IsSideWalk side game.now pairs.now walk) }
+    {
+        let sets = game.sets(side) as usize;
+        let actions = vec![in alloc; None; sets]?;
+        let mut beside = vec![in alloc; None; sets]?;
+        open_after(game, pairs, (side, 0), 0, &mut beside);
+        Ok(SideWalk { actions, beside })
+    }
+
+    /// Puts the action in, whose move ends sequence `seq`, and opens the sets that it leads to.
+    fn choose(&mut self, game: &Game, pairs: &Pairs, at: Open, action: u32, seq: u32)
+        requires whose { IsPairsOf game.now pairs.now }
+        requires rules { IsPairs pairs.now }
+        requires before { IsSideWalk at.side game.now pairs.now self.old }
+        requires is_open { slice_get self.old.beside.items at.set.0 ≡ Some (Some at.beside) }
+        requires named { IsActionOf at.side game.now at.set.0 action }
+        requires numbered { Ends (side_of at.side pairs.now.seqs).places (at.set, action) seq }
+        ensures walk { IsSideWalk at.side game.now pairs.now self.new }
+        ensures fewer { unchosen self.new.actions.items + 1 ≡ unchosen self.old.actions.items }
+    {
+        self.actions[at.set.0 as usize] = Some(action);
+        self.beside[at.set.0 as usize] = None;
+        open_after(game, pairs, (at.side, seq), at.beside, &mut self.beside);
+    }
 }
 
 impl Walk {
     /// No action is chosen, and the sets that come first are open.
     pub fn start(alloc: Global, game: &Game, pairs: &Pairs) -> Result<Walk, NoMemory>
-        requires whose { IsPairsOf game.now pairs.now }
+        requires { IsPairsOf game.now pairs.now }
         ensures { IfOk result (λ walk. IsWalk game.now pairs.now walk) }
     {
-        let mut opened = Vec::new(alloc);
-        open_after(game, pairs, (Side::One, 0), 0, &mut opened)?;
-        open_after(game, pairs, (Side::Two, 0), 0, &mut opened)?;
         Ok(Walk {
-            one: vec![in alloc; None; game.sets(Side::One) as usize]?,
-            two: vec![in alloc; None; game.sets(Side::Two) as usize]?,
-            opened,
+            one: SideWalk::start(alloc, game, pairs, Side::One)?,
+            two: SideWalk::start(alloc, game, pairs, Side::Two)?,
         })
     }
 
-    /// Chooses an action of positive value at an open set. The sets of the other player that are connected to it
-    /// stand beside the chosen move from then on, and the sets that the move leads to are opened.
+    /// The open set to settle next, if one is left: the only one that is connected to the first, or else the first.
+    ///
+    /// Open sets that are connected make stars, because three connections in a row would be a triangle. So this is
+    /// the centre of the star of the first one.
+    pub fn next(&self, game: &Game, pairs: &Pairs) -> Option<Open>
+        requires whose { IsPairsOf game.now pairs.now }
+        requires before { IsWalk game.now pairs.now self.now }
+        ensures none { IfNone result (NoneOpen self.now) }
+        ensures some { IfSome result (λ at. IsOpenOf self.now at) }
+    {
+        let first = self.first(game)?;
+        match self.near(game, pairs, first) {
+            Some(centre) => Some(centre),
+            None => Some(first),
+        }
+    }
+
+    fn first(&self, game: &Game) -> Option<Open>
+        requires one_per_set { length self.now.one.beside.items ≡ length game.now.one }
+        requires two_per_set { length self.now.two.beside.items ≡ length game.now.two }
+        ensures none { IfNone result (NoneOpen self.now) }
+        ensures some { IfSome result (λ at. IsOpenOf self.now at) }
+    {
+        match first_open(game, Side::One, &self.one.beside) {
+            Some(first) => Some(first),
+            None => first_open(game, Side::Two, &self.two.beside),
+        }
+    }
+
+    /// The only open set that is connected to this one, if there is exactly one.
+    fn near(&self, game: &Game, pairs: &Pairs, first: Open) -> Option<Open>
+        requires whose { IsPairsOf game.now pairs.now }
+        requires before { IsWalk game.now pairs.now self.now }
+        requires is_open { IsOpenOf self.now first }
+        ensures { IfSome result (λ at. IsOpenOf self.now at) }
+    {
+        match first.side {
+            Side::One => only_joined(game, pairs, first, &self.two.beside),
+            Side::Two => only_joined(game, pairs, first, &self.one.beside),
+        }
+    }
+
+    /// Chooses an action of positive value at an open set.
     pub fn settle(
         &mut self,
         game: &Game,
         pairs: &Pairs,
         values: &[i128],
-        at: usize,
+        at: Open,
     ) -> Result<(), DecomposeEnd>
         requires whose { IsPairsOf game.now pairs.now }
         requires rules { IsPairs pairs.now }
         requires per_pair { length values.now ≡ length pairs.now.pairs }
-        requires in_range { at < length self.old.opened.items }
         requires before { IsWalk game.now pairs.now self.old }
-        ensures { OnOk result (IsWalk game.now pairs.now self.new) }
+        requires is_open { IsOpenOf self.old at }
+        ensures walk { OnOk result (IsWalk game.now pairs.now self.new) }
+        ensures fewer { OnOk result (unchosen self.new.one.actions.items + unchosen self.new.two.actions.items + 1 ≡ unchosen self.old.one.actions.items + unchosen self.old.two.actions.items) }
     {
-        let settled = self.opened.swap_remove(at);
-        let Some(action) = positive_action(game, pairs, values, settled) else {
+        let Some(action) = positive_action(game, pairs, values, at) else {
             return Err(DecomposeEnd::NotBuilt);
         };
-        let seq = pairs.seqs().number(settled.side, settled.set, action);
-        move_beside(pairs, settled, seq, &mut self.opened);
-        open_after(
-            game,
-            pairs,
-            (settled.side, seq),
-            settled.beside,
-            &mut self.opened,
-        )?;
-        self.choose(game, pairs, settled, action);
+        self.choose(game, pairs, at, action);
         Ok(())
     }
 
-    /// Puts the action into the player's plan.
-    fn choose(&mut self, game: &Game, pairs: &Pairs, settled: Open, action: u32)
-        requires known { settled.set.0 < length (sets_of settled.side game.now) }
-        requires named { IsActionOf settled.side game.now settled.set.0 action }
+    /// Chooses an action at an open set. The other player's open sets that are connected to it stand beside the move
+    /// from then on.
+    fn choose(&mut self, game: &Game, pairs: &Pairs, at: Open, action: u32)
+        requires whose { IsPairsOf game.now pairs.now }
+        requires rules { IsPairs pairs.now }
         requires before { IsWalk game.now pairs.now self.old }
-        ensures { IsWalk game.now pairs.now self.new }
+        requires is_open { IsOpenOf self.old at }
+        requires named { IsActionOf at.side game.now at.set.0 action }
+        ensures walk { IsWalk game.now pairs.now self.new }
+        ensures fewer { unchosen self.new.one.actions.items + unchosen self.new.two.actions.items + 1 ≡ unchosen self.old.one.actions.items + unchosen self.old.two.actions.items }
     {
-        match settled.side {
-            Side::One => self.one[settled.set.0 as usize] = Some(action),
-            Side::Two => self.two[settled.set.0 as usize] = Some(action),
-        }
-    }
-}
-
-/// Puts the open sets that are connected to this one beside its sequence `seq`.
-fn move_beside(pairs: &Pairs, settled: Open, seq: u32, opened: &mut Vec<Open>)
-    requires own { IsOpen pairs.now settled }
-    requires known { seq < count_of (side_of settled.side pairs.now.seqs) }
-    requires before { All (IsOpen pairs.now) opened.old.items }
-    ensures { All (IsOpen pairs.now) opened.new.items }
-{
-    for k in 0..opened.len() {
-        if joined(pairs, &settled, &opened[k]) {
-            opened[k].beside = seq;
-        }
-    }
-}
-
-/// The first action at an open set that has a positive value beside the longest part of the other player's sequence
-/// at which the set has values.
-fn positive_action(game: &Game, pairs: &Pairs, values: &[i128], at: Open) -> Option<u32>
-    requires whose { IsPairsOf game.now pairs.now }
-    requires rules { IsPairs pairs.now }
-    requires per_pair { length values.now ≡ length pairs.now.pairs }
-    requires known { IsOpen pairs.now at }
-    ensures { IfSome result (λ action. IsActionOf at.side game.now at.set.0 action) }
-{
-    let beside = pairs.longest_relevant_prefix(other_side(at.side), at.beside, at.set);
-    for action in 0..game.set(at.side, at.set).actions {
         let seq = pairs.seqs().number(at.side, at.set, action);
-        if value_beside(pairs, values, (at.side, seq), beside) > 0 {
-            return Some(action);
+        match at.side {
+            Side::One => {
+                self.one.choose(game, pairs, at, action, seq);
+                move_beside(game, pairs, (at.side, at.set), seq, &mut self.two.beside);
+            }
+            Side::Two => {
+                self.two.choose(game, pairs, at, action, seq);
+                move_beside(game, pairs, (at.side, at.set), seq, &mut self.one.beside);
+            }
         }
-    }
-    None
-}
-
-/// The value at a sequence of a player and one of the other; 0 where the two aren't relevant.
-fn value_beside(pairs: &Pairs, values: &[i128], seq: (Side, u32), beside: u32) -> i128
-    requires per_pair { length values.now ≡ length pairs.now.pairs }
-    requires seq_in { seq.1 < count_of (side_of seq.0 pairs.now.seqs) }
-    requires beside_in { beside < count_of (side_of (other seq.0) pairs.now.seqs) }
-{
-    let index = match seq.0 {
-        Side::One => pairs.index_of(seq.1, beside),
-        Side::Two => pairs.index_of(beside, seq.1),
-    };
-    match index {
-        None => 0,
-        Some(k) => values[k as usize],
     }
 }

@@ -4,7 +4,7 @@ use Rattle.std.specs.List.{range_with_len}
 use Rattle.std.proofs.lemmas.List.{length_push, length-append}
 use Rattle.std.proofs.lemmas.List.FromFn.{map-range_with_len_more, length-map-range_with_len, get_or-map-range_with_len}
 use Rattle.std.proofs.lemmas.List.Sums.{sum_by_more, sum_by-take-le}
-use Rattle.std.proofs.lemmas.Option.{get_or_from_slice_get, slice_get_within}
+use Rattle.std.proofs.lemmas.Option.{get_or_from_slice_get, slice_get_read, slice_get_within}
 use Rattle.corr_game.specs.declared.nodes.SetId.{SetId}
 use Rattle.corr_game.specs.declared.nodes.SetInfo.{SetInfo}
 use Rattle.tree_recall.specs.LastMove.{IsMoveBelow}
@@ -46,6 +46,16 @@ move_at set actions j move h =
     let low : j < actions = omega (arith, slice_get_within (moves_at set actions) j move h, count) in
     (low, sym (get_or_from_slice_get (moves_at set actions) j move move h) ∙ get_or-map-range_with_len {X = SetId × ℕ} (λ (a : ℕ). (set, a)) 0 actions j j move low (omega arith))
 
+moved_to : (set : SetId) (actions j : ℕ) → j < actions → slice_get (moves_at set actions) j ≡ Some (set, j)
+moved_to set actions j low =
+    let count = length-map-range_with_len {X = SetId × ℕ} (λ (a : ℕ). (set, a)) 0 actions in
+    slice_get_read (moves_at set actions) actions j (set, j) (sym count) low (sym (get_or-map-range_with_len {X = SetId × ℕ} (λ (a : ℕ). (set, a)) 0 actions j j (set, j) low (omega arith)))
+
+beyond : {X : Type 0} (xs ys : List X) (k j : ℕ) (x : X) → k ≡ length xs + j → slice_get ys j ≡ Some x → slice_get (xs ++ ys) k ≡ Some x
+beyond [] ys k j x e h = let same : k ≡ j = omega arith in rw same h
+beyond (z ∷ zs) ys zero j x e h = absurd (omega arith)
+beyond (z ∷ zs) ys (suc k) j x e h = beyond zs ys k j x (omega arith) h
+
 -- the sets up to this one are numbered
 pub record IsPart (sets : List SetInfo) (set : ℕ) (places : List Place) (lasts : List (SetId × ℕ)) : Type 0 where
   pub numbered : IsNumbered places lasts
@@ -55,7 +65,7 @@ pub record IsPart (sets : List SetInfo) (set : ℕ) (places : List Place) (lasts
 
 pub no_part : (sets : List SetInfo) → IsPart sets 0 [] []
 no_part sets = record {
-  numbered = record { own_before = λ set place h. absurd (cc); in_range = λ set place h. absurd (cc); each_last = λ k move h. absurd (cc) };
+  numbered = record { own_before = λ set place h. absurd (cc); in_range = λ set place h. absurd (cc); each_last = λ k move h. absurd (cc); each_move = λ move k h. absurd (cc (h.1)) };
   count = refl;
   same_actions = λ set place info h i. absurd (cc);
   all = refl;
@@ -101,6 +111,15 @@ added sets set places lasts place info p room at own first same =
           | inr here ↦
               let moved = move_at set place.actions here.0 move here.2 in
               rw moved.1 (place, pushed places place set.0 (sym p.count), moved.0, omega (arith, first, here.1))
+        ];
+        each_move = λ move k h. elim (slice_get-push places place h.0 move.0.0 h.1) [
+          | inl there ↦ still lasts (moves_at set place.actions) k move (p.numbered.each_move move k (h.0, there, h.2, h.3))
+          | inr end ↦
+              let actions = ap (λ (x : Place). x.actions) end.1 in
+              let start = ap (λ (x : Place). x.first) end.1 in
+              let here : move.0.0 ≡ set.0 = end.0 ∙ p.count in
+              let same : move ≡ (set, move.1) = ap (λ (n : ℕ). (record { 0 = n }, move.1)) here in
+              rw same (beyond lasts (moves_at set place.actions) k move.1 (set, move.1) (omega (arith, h.3, start, first)) (moved_to set place.actions move.1 (omega (arith, h.2, actions))))
         ];
       };
       count = length_push places place ∙ ap (λ n. n + 1) p.count;

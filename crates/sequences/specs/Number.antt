@@ -45,11 +45,13 @@ IsAt places move = (place : Place) × (slice_get places move.0.0 ≡ Some place)
 abbrev pub IsOwn : SideView → ℕ → ℕ → Type 0
 IsOwn v set own = (place : Place) × (slice_get v.places set ≡ Some place) × (place.own ≡ own)
 
--- a set's own sequence has a smaller number than those that end at it, and every sequence but 0 ends with its move
+-- a set's own sequence has a smaller number than those that end at it; every sequence but 0 ends with its move, and no
+-- other sequence ends with that move
 pub record IsNumbered (places : List Place) (lasts : List (SetId × ℕ)) : Type 0 where
   pub own_before : (set : ℕ) (place : Place) → slice_get places set ≡ Some place → place.own < place.first
   pub in_range : (set : ℕ) (place : Place) → slice_get places set ≡ Some place → place.first + place.actions ≤ length lasts + 1
   pub each_last : (k : ℕ) (move : SetId × ℕ) → slice_get lasts k ≡ Some move → Ends places move (k + 1)
+  pub each_move : (move : SetId × ℕ) (k : ℕ) → Ends places move (k + 1) → slice_get lasts k ≡ Some move
 
 -- a last move is none, or one at a place and with a number below 4096
 abbrev pub IsTaken : List Place → Option (SetId × ℕ) → Type 0

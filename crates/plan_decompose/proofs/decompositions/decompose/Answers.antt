@@ -10,7 +10,7 @@ use Rattle.plan_decompose.proofs.decompositions.decompose.Goals as goal
 pub loop-init : goal.loop-init
 loop-init c = rw (c.new-list.ensures.empty, c.in_ok-rest.ensures) (record {
   count = search rules;
-  entries = All-nil (IsEntry c.args.game.now);
+  entries = All-nil (IsEntry c.args.game.now c.args.pairs.now.seqs);
   as_many = c.requires.per_pair;
   narrow = c.requires.narrow;
   shared = none_shared c.args.pairs.now c.args.values;
@@ -25,7 +25,7 @@ loop-preserved c =
     let back = written_back c.loop.rest.items c.take_entry.new.values c.loop.rest.len same (omega (arith, c.loop.rest.ok.0)) in
     rw (back, c.in_ok-push.ensures.ok) (record {
       count = length_push c.loop.list entry ∙ ap (λ (n : ℕ). n + 1) before.count;
-      entries = All-push (IsEntry c.args.game.now) c.loop.list entry before.entries c.in_ok-entry.ensures.entry;
+      entries = All-push (IsEntry c.args.game.now c.args.pairs.now.seqs) c.loop.list entry before.entries c.in_ok-entry.ensures.entry;
       as_many = same ∙ before.as_many;
       narrow = c.in_ok-entry.ensures.narrow;
       shared = one_more_shared p c.loop.list entry c.loop.rest.items c.take_entry.new.values c.args.values before.shared (rw c.deref_mut.ensures.value at c.in_ok-entry.ensures.taken);
@@ -33,7 +33,7 @@ loop-preserved c =
 
 pub returns-then-nothing_left-clause-entries : goal.returns-then-nothing_left-clause-entries
 returns-then-nothing_left-clause-entries c =
-    rw c.in_ok-push.ensures.ok (All-push (IsEntry c.args.game.now) c.loop.list c.in_ok-entry.entry c.loop.invariant.entries c.in_ok-entry.ensures.entry)
+    rw c.in_ok-push.ensures.ok (All-push (IsEntry c.args.game.now c.args.pairs.now.seqs) c.loop.list c.in_ok-entry.entry c.loop.invariant.entries c.in_ok-entry.ensures.entry)
 
 pub returns-then-nothing_left-clause-sums : goal.returns-then-nothing_left-clause-sums
 returns-then-nothing_left-clause-sums c = λ k pair e.

@@ -8,7 +8,7 @@ use Rattle.plan_decompose.proofs.decompositions.decompose.Given as goal
 abbrev pub invariant-loop : goal.invariant-loop
 invariant-loop l = record {
   count : length l.list ≡ l.counter;
-  entries : All (IsEntry l.game) l.list;
+  entries : All (IsEntry l.game l.pairs.seqs) l.list;
   as_many : length l.rest.items ≡ length l.pairs.pairs;
   narrow : All Narrow l.rest.items;
   shared : AreShared l.pairs l.list l.rest.items l.fn.values;

@@ -1,5 +1,12 @@
--- The open sets are the walk's.
+-- No set is open at the end.
+use Rattle.corr_game.specs.declared.sides.Side.TheVariants.{One, Two}
+use Rattle.plan_decompose.proofs.Parts.{reduced}
 use Rattle.plan_decompose.proofs.picks.pick.Goals as goal
 
-pub centre-at-requires-clause-each : goal.centre-at-requires-clause-each
-centre-at-requires-clause-each c = rw c.deref.ensures.value c.loop.invariant.each_open
+pub returns-clause-reduced_one : goal.returns-clause-reduced_one
+returns-clause-reduced_one c =
+    rw c.plan_of.ensures (reduced One c.args.game.now c.args.pairs.now c.loop-at.walk.one c.loop-at.invariant.one (c.in_default.ensures.none One))
+
+pub returns-clause-reduced_two : goal.returns-clause-reduced_two
+returns-clause-reduced_two c =
+    rw c.plan_of-2.ensures (reduced Two c.args.game.now c.args.pairs.now c.loop-at.walk.two c.loop-at.invariant.two (c.in_default.ensures.none Two))

@@ -1,6 +1,10 @@
--- The walk's plans and open sets are the game's.
-use Rattle.plan_decompose.specs.Walk.{IsWalk}
+-- The walk knows both players' sets, and each turn settles one.
+use Rattle.std.proofs.Common.{◌+◌}
+use Rattle.plan_decompose.specs.Walk.{IsWalk, unchosen}
 use Rattle.plan_decompose.proofs.picks.pick.Given as goal
 
-abbrev pub invariant-loop : goal.invariant-loop
-invariant-loop l = IsWalk l.game l.pairs l.walk
+abbrev pub invariant-loop-at : goal.invariant-loop-at
+invariant-loop-at l = IsWalk l.game l.pairs l.walk
+
+abbrev pub decreases-loop-at : goal.decreases-loop-at
+decreases-loop-at l = unchosen l.walk.one.actions.items + unchosen l.walk.two.actions.items

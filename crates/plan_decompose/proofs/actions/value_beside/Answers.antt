@@ -2,8 +2,8 @@
 use Rattle.std.proofs.Common.{◌≡◌, Some, arith}
 use Rattle.connected_pairs.specs.Connected.{index_of}
 use Rattle.connected_pairs.proofs.Indices.{index_in}
-use Rattle.plan_decompose.proofs.walks.value_beside.Goals as goal
-use Rattle.plan_decompose.proofs.walks.value_beside.Goals.{in-One, in-Two}
+use Rattle.plan_decompose.proofs.actions.value_beside.Goals as goal
+use Rattle.plan_decompose.proofs.actions.value_beside.Goals.{in-One, in-Two}
 
 pub bounds-values-k : goal.bounds-values-k
 bounds-values-k c =

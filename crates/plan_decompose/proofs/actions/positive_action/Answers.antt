@@ -4,7 +4,7 @@ use Rattle.sequences.specs.Number.{side_of}
 use Rattle.connected_pairs.specs.Connected.{other}
 use Rattle.connected_pairs.proofs.Indices.{is_at}
 use Rattle.plan_decompose.proofs.Ranges.{prefix_in}
-use Rattle.plan_decompose.proofs.walks.positive_action.Goals as goal
+use Rattle.plan_decompose.proofs.actions.positive_action.Goals as goal
 
 pub number-seq-requires : goal.number-seq-requires
 number-seq-requires c =
@@ -16,4 +16,4 @@ pub value_beside-requires-clause-beside_in : goal.value_beside-requires-clause-b
 value_beside-requires-clause-beside_in c =
     let at = c.args.at in
     let v = side_of (other at.side) c.args.pairs.now.seqs in
-    prefix_in v (c.requires.rules.sides (other at.side)) c.longest_relevant_prefix-beside.result at.beside (rw c.other_side.ensures at c.longest_relevant_prefix-beside.ensures.prefix) c.requires.known.1
+    prefix_in v (c.requires.rules.sides (other at.side)) c.longest_relevant_prefix-beside.result at.beside (rw c.other_side.ensures at c.longest_relevant_prefix-beside.ensures.prefix) c.requires.beside_in
