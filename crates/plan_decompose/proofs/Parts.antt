@@ -1,6 +1,6 @@
 -- What a walk knows of one player: at the start, after a choice at an open set, and after the open sets have moved beside
 -- another sequence.
-use Rattle.std.proofs.Common.{◌≡◌, ◌≢◌, ◌⊎◌, ℕ, ◌+◌, ◌<◌, zero, suc, List, Option, Some, None, length, replicate, set, slice_get, refl, sym, ap, ◌∙◌, inl, inr, arith}
+use Rattle.std.proofs.Common.{◌≡◌, ℕ, ◌<◌, List, Option, Some, None, length, replicate, set, slice_get, refl, sym, ap, ◌∙◌, inl, inr, arith}
 use Rattle.std.proofs.lemmas.Bool.{cases_eq}
 use Rattle.std.proofs.lemmas.List.{length-set, length-replicate}
 use Rattle.std.proofs.lemmas.Option.{slice_get_within}
@@ -18,7 +18,7 @@ use Rattle.plan_decompose.specs.declared.opens.Open.{Open}
 use Rattle.plan_decompose.specs.declared.walks.SideWalk.{SideWalk}
 use Rattle.plan_decompose.specs.declared.walks.Walk.{Walk}
 use Rattle.plan_decompose.specs.Reduced.{IsReduced}
-use Rattle.plan_decompose.specs.Walk.{IsActionOf, IsNamed, IsOpenOf, IsPart, IsSideWalk, IsWalk, part_of}
+use Rattle.plan_decompose.specs.Walk.{IsActionOf, IsOpenOf, IsPart, IsSideWalk, IsWalk, part_of}
 use Rattle.plan_decompose.proofs.Choosing.{no_choice, nothing_named, one_choice_more}
 use Rattle.plan_decompose.proofs.Walking.{set_same, set_other, last_is, plays_more, plays_less}
 
@@ -61,32 +61,32 @@ start_part side g p of n beside count opened =
       ];
     }
 
-pub moved_part : (side : Side) (g : GameView) (p : PairsView) (actions beside after : List (Option ℕ)) (t : ℕ) → IsPart side g p actions beside → AreMoved t beside after → t < count_of (side_of (other side) p.seqs)
-    → IsPart side g p actions after
-moved_part side g p actions beside after t w moved low = record {
+pub moved_part : (side : Side) (g : GameView) (p : PairsView) (actions beside after : List (Option ℕ)) (from : Side) (settled t : ℕ) → IsPart side g p actions beside → AreMoved p from settled t beside after
+    → t < count_of (side_of (other side) p.seqs) → IsPart side g p actions after
+moved_part side g p actions beside after from settled t w moved low = record {
   plan = w.plan;
   per_set = moved.as_many ∙ w.per_set;
-  in_range = λ set u o. elim (moved.each set) [
-    | inl same ↦ w.in_range set u (sym same ∙ o)
-    | inr new ↦ let same : u ≡ t = cc (o, new.1) in rw same low
+  in_range = λ set u o. elim (moved.each set (omega (arith, slice_get_within after set (Some u) o, moved.as_many))) [
+    | inl new ↦ let same : u ≡ t = cc (o, new.2) in rw same low
+    | inr same ↦ w.in_range set u (sym same.1 ∙ o)
   ];
   led = w.led;
-  waiting = λ set u place at o. elim (moved.each set) [
-    | inl same ↦ w.waiting set u place at (sym same ∙ o)
-    | inr new ↦ w.waiting set new.0.0 place at new.0.1
+  waiting = λ set u place at o. elim (moved.each set (omega (arith, slice_get_within after set (Some u) o, moved.as_many))) [
+    | inl new ↦ w.waiting set new.1.0 place at new.1.1
+    | inr same ↦ w.waiting set u place at (sym same.1 ∙ o)
   ];
   met = λ set place at r. elim (w.met set place at r) [
     | inl named ↦ inl named
-    | inr here ↦ elim (moved.each set) [
-      | inl same ↦ inr (here.0, same ∙ here.1)
-      | inr new ↦ inr (t, new.1)
+    | inr here ↦ elim (moved.each set (slice_get_within beside set (Some here.0) here.1)) [
+      | inl new ↦ inr (t, new.2)
+      | inr same ↦ inr (here.0, same.1 ∙ here.1)
     ]
   ];
 }
 
--- a set with no action before it was settled has none now, if it is another
-unnamed : (v : SideView) (actions : List (Option ℕ)) (set : ℕ) (place : Place) → set < length actions → ((action : ℕ) → slice_get actions set ≡ Some (Some action) → ⊥) → slice_get actions set ≡ Some None
-unnamed v actions set place low none =
+-- a set that is there and has no action is none
+unnamed : (actions : List (Option ℕ)) (set : ℕ) → set < length actions → ((action : ℕ) → slice_get actions set ≡ Some (Some action) → ⊥) → slice_get actions set ≡ Some None
+unnamed actions set low none =
     let entry = within actions set low in
     elim entry.0 as (λ x. slice_get actions set ≡ Some x → slice_get actions set ≡ Some None) [
       | None ↦ λ e. e
@@ -137,7 +137,7 @@ chosen_part side g p of rules actions beside after at t action seq w is_open nam
             let one : place ≡ ends.0 = cc (both, ends.1) in
             omega (arith, ap (λ (x : Place). x.own) one, new.0, earlier, ends.3)) in
             let room : k < length actions = omega (arith, slice_get_within after k (Some u) o, opened.as_many, length-set beside at.0 None, w.per_set, w.plan.per_set) in
-            (rw new.0 played, set_other actions at.0 k (Some action) apart ∙ unnamed v actions k place room (λ x e. unplayed (rw new.0 at (w.led k x place there e))))
+            (rw new.0 played, set_other actions at.0 k (Some action) apart ∙ unnamed actions k room (λ x e. unplayed (rw new.0 at (w.led k x place there e))))
         | inr old ↦
             let closed_here = sym old.1 ∙ o in
             let apart = open_apart k u closed_here in

@@ -1,21 +1,13 @@
 -- A choice at an open set keeps what the walk knows of its player. What the plan played it still plays, and it plays one
 -- sequence more, which ends with the new move: a set before which another move stands was led to before.
-use Rattle.std.proofs.Common.{◌≡◌, ◌≢◌, ◌⊎◌, ℕ, ◌+◌, ◌<◌, zero, suc, List, [], ◌∷◌, Option, Some, None, length, replicate, set, slice_get, get_or, cond, refl, sym, subst, ap, ◌∙◌, inl, inr, arith}
+use Rattle.std.proofs.Common.{◌≡◌, ◌⊎◌, ℕ, ◌+◌, ◌<◌, zero, suc, List, [], ◌∷◌, Option, Some, None, length, set, slice_get, get_or, cond, refl, sym, ap, ◌∙◌, inl, inr, arith}
 use Rattle.std.proofs.lemmas.Bool.{cases_eq}
-use Rattle.std.proofs.lemmas.List.{length-set, length-replicate}
 use Rattle.std.proofs.lemmas.List.Sums.{sum_by-set}
 use Rattle.std.proofs.lemmas.Option.{slice_get_within, get_or_from_slice_get}
 use Rattle.corr_game.specs.declared.nodes.SetId.{SetId}
-use Rattle.corr_game.specs.declared.sides.Side.{Side}
-use Rattle.corr_game.specs.Game.{GameView, sets_of}
 use Rattle.sequences.specs.declared.places.Place.{Place}
-use Rattle.sequences.specs.Number.{SideView, IsSide, IsSideOf, Ends, Plays, nothing, further, last_of, count_of, side_of}
-use Rattle.sequences.proofs.Adding.{within}
-use Rattle.sequences.proofs.Holding.{plays-named}
-use Rattle.connected_pairs.specs.Connected.{PairsView, other}
-use Rattle.plan_decompose.specs.OpenSets.{AreMoved, AreOpened}
-use Rattle.plan_decompose.specs.Walk.{IsActionOf, IsNamed, IsPart, is_none, unchosen}
-use Rattle.plan_decompose.proofs.Choosing.{no_choice, nothing_named, one_choice_more}
+use Rattle.sequences.specs.Number.{SideView, IsSide, Ends, Plays, nothing, further, last_of}
+use Rattle.plan_decompose.specs.Walk.{is_none, unchosen}
 
 pub set_same : {X : Type 0} (xs : List X) (i : ℕ) (y : X) → i < length xs → slice_get (set xs i y) i ≡ Some y
 set_same [] i y h = absurd (omega arith)

@@ -1,5 +1,5 @@
 -- The walk that chooses two plans, set by set.
-use Rattle.std.specs.Prelude.{ℕ, ◌≡◌, ◌<◌, ◌⊎◌, List, length, Bool, true, false, count_by, Option, Some, None, slice_get}
+use Rattle.std.specs.Prelude.{ℕ, ◌≡◌, ◌+◌, ◌<◌, ◌⊎◌, List, length, Bool, true, false, count_by, Option, Some, None, slice_get}
 use Rattle.corr_game.specs.declared.nodes.SetInfo.{SetInfo}
 use Rattle.corr_game.specs.declared.sides.Side.{Side}
 use Rattle.corr_game.specs.declared.sides.Side.TheVariants.{One, Two}
@@ -50,6 +50,10 @@ IsSideWalk side g p walk = IsPart side g p walk.actions.items walk.beside.items
 pub record IsWalk (g : GameView) (p : PairsView) (walk : Walk) : Type 0 where
   pub one : IsSideWalk One g p walk.one
   pub two : IsSideWalk Two g p walk.two
+
+-- the number of sets of both players that have no action
+abbrev pub unsettled : Walk → ℕ
+unsettled walk = unchosen walk.one.actions.items + unchosen walk.two.actions.items
 
 -- a player's part of a walk
 abbrev pub part_of : Side → Walk → SideWalk

@@ -89,7 +89,7 @@ pub fn move_beside(
     requires whose { IsPairsOf game.now pairs.now }
     requires per_set { length beside.old.items ≡ length (sets_of (other settled.0) game.now) }
     requires known { settled.1.0 < length (sets_of settled.0 game.now) }
-    ensures { AreMoved sequence beside.old.items beside.new.items }
+    ensures { AreMoved pairs.now settled.0 settled.1.0 sequence beside.old.items beside.new.items }
 {
     for set in 0..game.sets(other_side(settled.0)) {
         if beside[set as usize].is_some() && pairs.touches(settled.0, settled.1, SetId(set)) {

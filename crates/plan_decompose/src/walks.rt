@@ -2,7 +2,7 @@ ghost use Rattle.std.specs.Prelude.{◌≡◌, ◌<◌, ◌+◌, length, slice_g
 ghost use Rattle.corr_game.specs.declared.sides.Side.TheVariants.{One, Two};
 ghost use Rattle.sequences.specs.Number.{Ends, side_of};
 ghost use Rattle.connected_pairs.specs.Connected.{IsPairs, IsPairsOf, other};
-ghost use Rattle.plan_decompose.specs.Walk.{IsActionOf, IsOpenOf, IsSideWalk, IsWalk, NoneOpen, unchosen};
+ghost use Rattle.plan_decompose.specs.Walk.{IsActionOf, IsOpenOf, IsSideWalk, IsWalk, NoneOpen, unchosen, unsettled};
 
 use crate::actions::positive_action;
 use crate::ends::DecomposeEnd;
@@ -125,7 +125,7 @@ impl Walk {
         requires before { IsWalk game.now pairs.now self.old }
         requires is_open { IsOpenOf self.old at }
         ensures walk { OnOk result (IsWalk game.now pairs.now self.new) }
-        ensures fewer { OnOk result (unchosen self.new.one.actions.items + unchosen self.new.two.actions.items + 1 ≡ unchosen self.old.one.actions.items + unchosen self.old.two.actions.items) }
+        ensures fewer { OnOk result (unsettled self.new + 1 ≡ unsettled self.old) }
     {
         let Some(action) = positive_action(game, pairs, values, at) else {
             return Err(DecomposeEnd::NotBuilt);
@@ -143,7 +143,7 @@ impl Walk {
         requires is_open { IsOpenOf self.old at }
         requires named { IsActionOf at.side game.now at.set.0 action }
         ensures walk { IsWalk game.now pairs.now self.new }
-        ensures fewer { unchosen self.new.one.actions.items + unchosen self.new.two.actions.items + 1 ≡ unchosen self.old.one.actions.items + unchosen self.old.two.actions.items }
+        ensures fewer { unsettled self.new + 1 ≡ unsettled self.old }
     {
         let seq = pairs.seqs().number(at.side, at.set, action);
         match at.side {

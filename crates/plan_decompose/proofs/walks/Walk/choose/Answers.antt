@@ -1,5 +1,5 @@
 -- The open set's player has made a choice; the other player's open sets have moved beside it.
-use Rattle.std.proofs.Common.{◌∙◌, sym, arith}
+use Rattle.std.proofs.Common.{arith}
 use Rattle.corr_game.specs.declared.sides.Side.TheVariants.{One, Two}
 use Rattle.sequences.specs.Number.{side_of}
 use Rattle.connected_pairs.proofs.Indices.{move_in}
@@ -29,7 +29,7 @@ returns-in-One-clause-walk c =
     let ends = rw (c.in-One.is, c.seqs.ensures) at c.number-seq.ensures in
     record {
       one = rw c.in-One.is at c.choose.ensures.walk;
-      two = moved_part Two c.args.game.now p old.two.actions.items old.two.beside.items c.move_beside.new.beside.items c.number-seq.result c.requires.before.two c.move_beside.ensures
+      two = moved_part Two c.args.game.now p old.two.actions.items old.two.beside.items c.move_beside.new.beside.items c.args.at.side c.args.at.set.0 c.number-seq.result c.requires.before.two c.move_beside.ensures
           (move_in p.seqs.one (c.requires.rules.sides One) (c.args.at.set, c.args.action) c.number-seq.result ends);
     }
 
@@ -39,7 +39,7 @@ returns-in-Two-clause-walk c =
     let old = c.args.self.now in
     let ends = rw (c.in-Two.is, c.seqs.ensures) at c.number-seq.ensures in
     record {
-      one = moved_part One c.args.game.now p old.one.actions.items old.one.beside.items c.move_beside-in-Two.new.beside.items c.number-seq.result c.requires.before.one c.move_beside-in-Two.ensures
+      one = moved_part One c.args.game.now p old.one.actions.items old.one.beside.items c.move_beside-in-Two.new.beside.items c.args.at.side c.args.at.set.0 c.number-seq.result c.requires.before.one c.move_beside-in-Two.ensures
           (move_in p.seqs.two (c.requires.rules.sides Two) (c.args.at.set, c.args.action) c.number-seq.result ends);
       two = rw c.in-Two.is at c.choose-in-Two.ensures.walk;
     }
