@@ -118,6 +118,8 @@ impl Pairs {
         requires set_in { set.0 < length (side_of (other side) self.now.seqs).places }
         ensures prefix { IsPrefix (side_of side self.now.seqs) result seq }
         ensures relevant { IsTouched self.now side set.0 (last_of (side_of side self.now.seqs) result) }
+        ensures longest { (part : ℕ) → IsPrefix (side_of side self.now.seqs) part seq → IsTouched self.now side set.0 (last_of (side_of side self.now.seqs) part)
+            → IsPrefix (side_of side self.now.seqs) part result }
     {
         let Some(taken) = self.seqs.last(side, seq) else {
             return seq;

@@ -1,6 +1,10 @@
 pub mod Choosing
+pub mod Fairness
+pub mod Going
+pub mod Joining
 pub mod Parts
 pub mod Ranges
+pub mod Stars
 pub mod Sums
 pub mod Taking
 pub mod Walking

@@ -18,7 +18,7 @@ use Rattle.plan_decompose.specs.declared.opens.Open.{Open}
 use Rattle.plan_decompose.specs.declared.walks.SideWalk.{SideWalk}
 use Rattle.plan_decompose.specs.declared.walks.Walk.{Walk}
 use Rattle.plan_decompose.specs.Reduced.{IsReduced}
-use Rattle.plan_decompose.specs.Walk.{IsActionOf, IsOpenOf, IsPart, IsSideWalk, IsWalk, part_of}
+use Rattle.plan_decompose.specs.Walk.{IsActionOf, IsFresh, IsOpenOf, IsPart, IsSideWalk, IsWalk, part_of}
 use Rattle.plan_decompose.proofs.Choosing.{no_choice, nothing_named, one_choice_more}
 use Rattle.plan_decompose.proofs.Walking.{set_same, set_other, last_is, plays_more, plays_less}
 
@@ -59,6 +59,26 @@ start_part side g p of n beside count opened =
         | inl here ↦ inr (0, here.1)
         | inr apart ↦ absurd (apart.0 (only_empty v n place.own r))
       ];
+    }
+
+pub start_fresh : (side : Side) (g : GameView) (p : PairsView) → IsSideOf side g (side_of side p.seqs) → (n : ℕ) (beside : List (Option ℕ)) → n ≡ length (sets_of side g)
+    → AreOpened (side_of side p.seqs) 0 0 (replicate n None) beside → IsFresh (side_of side p.seqs) (replicate n None) beside
+start_fresh side g p of n beside count opened =
+    let v = side_of side p.seqs in
+    let none : Option ℕ = None in
+    let long = opened.as_many ∙ length-replicate n none in
+    record {
+      only_empty = only_empty v n;
+      at_first = λ set t place o at. elim (opened.each set place at) [
+        | inl here ↦ here.0
+        | inr apart ↦ absurd (nothing_named n set t (sym apart.1 ∙ o))
+      ];
+      beside_empty = λ set t o.
+          let place = within v.places set (omega (arith, slice_get_within beside set (Some t) o, long, count, of.per_set)) in
+          elim (opened.each set place.0 place.1) [
+            | inl here ↦ (let same : t ≡ 0 = cc (o, here.1) in same)
+            | inr apart ↦ absurd (nothing_named n set t (sym apart.1 ∙ o))
+          ];
     }
 
 pub moved_part : (side : Side) (g : GameView) (p : PairsView) (actions beside after : List (Option ℕ)) (from : Side) (settled t : ℕ) → IsPart side g p actions beside → AreMoved p from settled t beside after

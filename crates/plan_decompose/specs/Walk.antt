@@ -6,7 +6,7 @@ use Rattle.corr_game.specs.declared.sides.Side.TheVariants.{One, Two}
 use Rattle.corr_game.specs.Game.{GameView, sets_of}
 use Rattle.corr_game.specs.Plan.{IsPlan}
 use Rattle.sequences.specs.declared.places.Place.{Place}
-use Rattle.sequences.specs.Number.{Plays, count_of, side_of}
+use Rattle.sequences.specs.Number.{SideView, Plays, count_of, side_of}
 use Rattle.connected_pairs.specs.Connected.{PairsView, other}
 use Rattle.plan_decompose.specs.declared.opens.Open.{Open}
 use Rattle.plan_decompose.specs.declared.walks.SideWalk.{SideWalk}
@@ -45,6 +45,12 @@ pub record IsPart (side : Side) (g : GameView) (p : PairsView) (actions beside :
 -- one player's part of a walk
 abbrev pub IsSideWalk : Side → GameView → PairsView → SideWalk → Type 0
 IsSideWalk side g p walk = IsPart side g p walk.actions.items walk.beside.items
+
+-- at the start a plan plays the empty sequence alone, and the open sets come first and stand beside the empty sequence
+pub record IsFresh (v : SideView) (actions beside : List (Option ℕ)) : Type 0 where
+  pub only_empty : (seq : ℕ) → Plays v actions seq → seq ≡ 0
+  pub at_first : (set t : ℕ) (place : Place) → slice_get beside set ≡ Some (Some t) → slice_get v.places set ≡ Some place → place.own ≡ 0
+  pub beside_empty : (set t : ℕ) → slice_get beside set ≡ Some (Some t) → t ≡ 0
 
 -- both players' parts
 pub record IsWalk (g : GameView) (p : PairsView) (walk : Walk) : Type 0 where

@@ -1,7 +1,8 @@
 ghost use Rattle.std.specs.Prelude.{◌≡◌, ◌<◌, ℕ, length, slice_get, IfNone, IfSome, Some};
 ghost use Rattle.corr_game.specs.Game.{sets_of};
 ghost use Rattle.sequences.specs.Number.{side_of};
-ghost use Rattle.connected_pairs.specs.Connected.{IsPairsOf, other};
+ghost use Rattle.connected_pairs.specs.Connected.{IsPairsOf, other, touches};
+ghost use Rattle.plan_decompose.specs.Fair.{IsNotOne, IsOnlyJoined, Waits};
 ghost use Rattle.plan_decompose.specs.OpenSets.{AreMoved, AreOpened};
 
 use connected_pairs::Pairs;
@@ -38,23 +39,27 @@ pub fn only_joined(game: &Game, pairs: &Pairs, first: Open, beside: &[Option<u32
     requires whose { IsPairsOf game.now pairs.now }
     requires per_set { length beside.now ≡ length (sets_of (other first.side) game.now) }
     requires known { first.set.0 < length (sets_of first.side game.now) }
-    ensures { IfSome result (λ at. (at.side ≡ other first.side) × (slice_get beside.now at.set.0 ≡ Some (Some at.beside))) }
+    ensures some { IfSome result
+        (λ at. (at.side ≡ other first.side) × Waits beside.now at.set.0 at.beside × IsOnlyJoined (touches pairs.now first.side first.set.0) beside.now at.set.0) }
+    ensures none { IfNone result (IsNotOne (touches pairs.now first.side first.set.0) beside.now) }
 {
     let side = other_side(first.side);
     let mut only = None;
     for set in 0..game.sets(side) {
-        if let Some(sequence) = beside[set as usize]
-            && pairs.touches(first.side, first.set, SetId(set))
-        {
-            if only.is_some() {
-                return None;
-            }
-            only = Some(Open {
-                side,
-                set: SetId(set),
-                beside: sequence,
-            });
+        let Some(sequence) = beside[set as usize] else {
+            continue;
+        };
+        if !pairs.touches(first.side, first.set, SetId(set)) {
+            continue;
         }
+        if only.is_some() {
+            return None;
+        }
+        only = Some(Open {
+            side,
+            set: SetId(set),
+            beside: sequence,
+        });
     }
     only
 }

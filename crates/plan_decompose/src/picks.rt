@@ -1,8 +1,10 @@
-ghost use Rattle.std.specs.Prelude.{◌≡◌, length, IfOk};
+ghost use Rattle.std.specs.Prelude.{◌≡◌, length, IfOk, Err};
 ghost use Rattle.corr_game.specs.Plan.{IsPlan};
 ghost use Rattle.corr_game.specs.declared.sides.Side.TheVariants.{One, Two};
-ghost use Rattle.connected_pairs.specs.Connected.{IsPairs, IsPairsOf};
+ghost use Rattle.connected_pairs.specs.Connected.{IsPairs, IsPairsOf, are_connected};
 ghost use Rattle.plan_decompose.specs.Reduced.{IsReduced};
+ghost use Rattle.plan_decompose.specs.Solution.{ArePositive, IsSolution, value_of};
+ghost use Rattle.plan_decompose.specs.declared.ends.DecomposeEnd.TheVariants.{NotBuilt};
 
 use crate::ends::DecomposeEnd;
 use crate::walks::{SideWalk, Walk};
@@ -24,6 +26,9 @@ pub fn pick(
     ensures plan_two { IfOk result (λ plans. IsPlan Two game.now plans.1) }
     ensures reduced_one { IfOk result (λ plans. IsReduced pairs.now.seqs.one plans.0) }
     ensures reduced_two { IfOk result (λ plans. IsReduced pairs.now.seqs.two plans.1) }
+    ensures positive { IsSolution pairs.now values.now → IfOk result
+        (λ plans. ArePositive pairs.now.seqs.one pairs.now.seqs.two (λ i k. are_connected pairs.now i k) (λ x y. value_of pairs.now values.now One x y) plans.0 plans.1) }
+    ensures goes_on { IsSolution pairs.now values.now → result ≡ Err NotBuilt → ⊥ }
 {
     let mut walk = Walk::start(alloc, game, pairs)?;
     while let Some(at) = walk.next(game, pairs) {

@@ -1,8 +1,11 @@
-ghost use Rattle.std.specs.Prelude.{◌≡◌, ◌<◌, ◌+◌, length, slice_get, Some, IfNone, IfOk, IfSome, OnOk};
+ghost use Rattle.std.specs.Prelude.{◌≡◌, ◌<◌, ◌+◌, ◌≤ℤ◌, ℕ, ℤ, pos, List, length, slice_get, slice_set, Some, None, IfNone, IfOk, IfSome, OnErr, OnOk};
 ghost use Rattle.corr_game.specs.declared.sides.Side.TheVariants.{One, Two};
 ghost use Rattle.sequences.specs.Number.{Ends, side_of};
-ghost use Rattle.connected_pairs.specs.Connected.{IsPairs, IsPairsOf, other};
-ghost use Rattle.plan_decompose.specs.Walk.{IsActionOf, IsOpenOf, IsSideWalk, IsWalk, NoneOpen, unchosen, unsettled};
+ghost use Rattle.connected_pairs.specs.Connected.{IsPairs, IsPairsOf, other, touches};
+ghost use Rattle.plan_decompose.specs.Fair.{IsCentre, IsFair, IsLongest, IsNext, IsNotOne, IsOnlyJoined};
+ghost use Rattle.plan_decompose.specs.OpenSets.{AreOpened};
+ghost use Rattle.plan_decompose.specs.Solution.{IsSolution, value_of};
+ghost use Rattle.plan_decompose.specs.Walk.{IsActionOf, IsFresh, IsOpenOf, IsSideWalk, IsWalk, NoneOpen, part_of, unchosen, unsettled};
 
 use crate::actions::positive_action;
 use crate::ends::DecomposeEnd;
@@ -31,7 +34,9 @@ pub struct Walk {
 impl SideWalk {
     fn start(alloc: Global, game: &Game, pairs: &Pairs, side: Side) -> Result<SideWalk, NoMemory>
         requires { IsPairsOf game.now pairs.now }
-        ensures { IfOk result (λ walk. IsSideWalk side game.now pairs.now walk) }
+        ensures walk { IfOk result (λ walk. IsSideWalk side game.now pairs.now walk) }
+        ensures fresh { IfOk result
+            (λ walk. IsFresh (side_of side pairs.now.seqs) walk.actions.items walk.beside.items) }
     {
         let sets = game.sets(side) as usize;
         let actions = vec![in alloc; None; sets]?;
@@ -50,6 +55,8 @@ impl SideWalk {
         requires numbered { Ends (side_of at.side pairs.now.seqs).places (at.set, action) seq }
         ensures walk { IsSideWalk at.side game.now pairs.now self.new }
         ensures fewer { unchosen self.new.actions.items + 1 ≡ unchosen self.old.actions.items }
+        ensures chosen { self.new.actions.items ≡ slice_set self.old.actions.items at.set.0 (Some action) }
+        ensures opened { AreOpened (side_of at.side pairs.now.seqs) seq at.beside (slice_set self.old.beside.items at.set.0 None) self.new.beside.items }
     {
         self.actions[at.set.0 as usize] = Some(action);
         self.beside[at.set.0 as usize] = None;
@@ -61,7 +68,8 @@ impl Walk {
     /// No action is chosen, and the sets that come first are open.
     pub fn start(alloc: Global, game: &Game, pairs: &Pairs) -> Result<Walk, NoMemory>
         requires { IsPairsOf game.now pairs.now }
-        ensures { IfOk result (λ walk. IsWalk game.now pairs.now walk) }
+        ensures walk { IfOk result (λ walk. IsWalk game.now pairs.now walk) }
+        ensures fair { (values : List ℤ) → IsSolution pairs.now values → IfOk result (λ walk. IsFair pairs.now values walk) }
     {
         Ok(Walk {
             one: SideWalk::start(alloc, game, pairs, Side::One)?,
@@ -78,6 +86,7 @@ impl Walk {
         requires before { IsWalk game.now pairs.now self.now }
         ensures none { IfNone result (NoneOpen self.now) }
         ensures some { IfSome result (λ at. IsOpenOf self.now at) }
+        ensures chosen { IfSome result (λ at. IsNext pairs.now self.now at) }
     {
         let first = self.first(game)?;
         match self.near(game, pairs, first) {
@@ -103,7 +112,9 @@ impl Walk {
         requires whose { IsPairsOf game.now pairs.now }
         requires before { IsWalk game.now pairs.now self.now }
         requires is_open { IsOpenOf self.now first }
-        ensures { IfSome result (λ at. IsOpenOf self.now at) }
+        ensures some { IfSome result
+            (λ at. IsOpenOf self.now at × (at.side ≡ other first.side) × IsOnlyJoined (touches pairs.now first.side first.set.0) (part_of (other first.side) self.now).beside.items at.set.0) }
+        ensures none { IfNone result (IsNotOne (touches pairs.now first.side first.set.0) (part_of (other first.side) self.now).beside.items) }
     {
         match first.side {
             Side::One => only_joined(game, pairs, first, &self.two.beside),
@@ -126,6 +137,8 @@ impl Walk {
         requires is_open { IsOpenOf self.old at }
         ensures walk { OnOk result (IsWalk game.now pairs.now self.new) }
         ensures fewer { OnOk result (unsettled self.new + 1 ≡ unsettled self.old) }
+        ensures fair { IsSolution pairs.now values.now → IsFair pairs.now values.now self.old → IsNext pairs.now self.old at → OnOk result (IsFair pairs.now values.now self.new) }
+        ensures goes_on { IsSolution pairs.now values.now → IsFair pairs.now values.now self.old → OnErr result ⊥ }
     {
         let Some(action) = positive_action(game, pairs, values, at) else {
             return Err(DecomposeEnd::NotBuilt);
@@ -144,6 +157,10 @@ impl Walk {
         requires named { IsActionOf at.side game.now at.set.0 action }
         ensures walk { IsWalk game.now pairs.now self.new }
         ensures fewer { unsettled self.new + 1 ≡ unsettled self.old }
+        ensures fair { (values : List ℤ) (near : ℕ) → IsSolution pairs.now values → IsFair pairs.now values self.old → IsCentre pairs.now self.old at
+            → IsLongest pairs.now (other at.side) at.set.0 at.beside near
+            → ((seq : ℕ) → Ends (side_of at.side pairs.now.seqs).places (at.set, action) seq → pos 1 ≤ℤ value_of pairs.now values at.side seq near)
+            → IsFair pairs.now values self.new }
     {
         let seq = pairs.seqs().number(at.side, at.set, action);
         match at.side {

@@ -1,8 +1,7 @@
--- A set that was found is open.
-use Rattle.std.proofs.Common.{◌≡◌, Some, slice_get}
-use Rattle.std.specs.Prelude.{IfSome}
-use Rattle.connected_pairs.specs.Connected.{other}
+-- Of the sets gone over none is open and connected, or the one that was found alone is.
+use Rattle.connected_pairs.specs.Connected.{other, touches}
+use Rattle.plan_decompose.proofs.Joining.{IsFound}
 use Rattle.plan_decompose.proofs.opens.only_joined.Given as goal
 
 abbrev pub invariant-loop-set : goal.invariant-loop-set
-invariant-loop-set l = IfSome l.only (λ at. (at.side ≡ other l.first.side) × (slice_get l.beside at.set.0 ≡ Some (Some at.beside)))
+invariant-loop-set l = IsFound (other l.first.side) (touches l.pairs l.first.side l.first.set.0) l.beside l.set l.only

@@ -1,8 +1,9 @@
 -- The open set's player has made a choice; the other player's open sets have moved beside it.
-use Rattle.std.proofs.Common.{arith}
+use Rattle.std.proofs.Common.{◌∙◌, sym, refl, arith}
 use Rattle.corr_game.specs.declared.sides.Side.TheVariants.{One, Two}
 use Rattle.sequences.specs.Number.{side_of}
 use Rattle.connected_pairs.proofs.Indices.{move_in}
+use Rattle.plan_decompose.proofs.Going.{fair_after_one, fair_after_two}
 use Rattle.plan_decompose.proofs.Parts.{moved_part, open_known}
 use Rattle.plan_decompose.proofs.Ranges.{is_move}
 use Rattle.plan_decompose.proofs.walks.Walk.choose.Goals as goal
@@ -43,3 +44,19 @@ returns-in-Two-clause-walk c =
           (move_in p.seqs.two (c.requires.rules.sides Two) (c.args.at.set, c.args.action) c.number-seq.result ends);
       two = rw c.in-Two.is at c.choose-in-Two.ensures.walk;
     }
+
+pub returns-in-One-clause-fair : goal.returns-in-One-clause-fair
+returns-in-One-clause-fair c = λ values near s fair centre longest gain.
+    let at = c.args.at in
+    let found = rw c.seqs.ensures at c.number-seq.ensures in
+    let ends = rw c.in-One.is at found in
+    fair_after_one c.args.game.now c.args.pairs.now values c.requires.whose c.requires.rules s c.args.self.now _ at.set at.beside c.args.action c.number-seq.result near c.requires.before fair (rw c.in-One.is at c.requires.is_open) ends
+    c.choose.ensures.chosen (rw c.in-One.is at c.choose.ensures.opened) refl (rw c.in-One.is at c.move_beside.ensures) (rw c.in-One.is at longest) (rw c.in-One.is at (gain c.number-seq.result found)) (rw c.in-One.is at centre)
+
+pub returns-in-Two-clause-fair : goal.returns-in-Two-clause-fair
+returns-in-Two-clause-fair c = λ values near s fair centre longest gain.
+    let at = c.args.at in
+    let found = rw c.seqs.ensures at c.number-seq.ensures in
+    let ends = rw c.in-Two.is at found in
+    fair_after_two c.args.game.now c.args.pairs.now values c.requires.whose c.requires.rules s c.args.self.now _ at.set at.beside c.args.action c.number-seq.result near c.requires.before fair (rw c.in-Two.is at c.requires.is_open) ends
+    c.choose-in-Two.ensures.chosen (rw c.in-Two.is at c.choose-in-Two.ensures.opened) refl (rw c.in-Two.is at c.move_beside-in-Two.ensures) (rw c.in-Two.is at longest) (rw c.in-Two.is at (gain c.number-seq.result found)) (rw c.in-Two.is at centre)
