@@ -1,5 +1,5 @@
 -- One pair more is gone over: a relevant one is put behind the others, so those keep their indices.
-use Rattle.std.proofs.Common.{◌≡◌, ℕ, ◌+◌, ◌*◌, ◌^◌, ◌<◌, ◌≤◌, Bool, true, false, List, [], ◌∷◌, ◌++◌, Option, Some, None, length, refl, ap, ◌∙◌, inl, inr, arith}
+use Rattle.std.proofs.Common.{◌≡◌, ℕ, ◌+◌, ◌*◌, ◌^◌, ◌<◌, ◌≤◌, Bool, true, false, List, [], ◌∷◌, ◌++◌, Option, Some, None, length, refl, sym, ap, ◌∙◌, inl, inr, arith}
 use Rattle.std.proofs.Math.Nat.{mul-le-mul_left}
 use Rattle.std.proofs.lemmas.List.{length_push}
 use Rattle.std.proofs.lemmas.Nat.{mul-add-lt}
@@ -30,6 +30,7 @@ none_listed s table = record {
   all = refl;
   at_most = omega arith;
   each_pair = λ k pair h. absurd (cc);
+  each_index = λ k pair h. absurd (cc);
   each_place = λ k place h. absurd (cc);
 }
 
@@ -42,6 +43,10 @@ list-relevant s table count one two next pairs places p low left e n related = r
   each_pair = λ k pair h. elim (slice_get-push pairs (one, two) pair k h) [
     | inl there ↦ p.each_pair k pair there
     | inr end ↦ rw (← end.1) (low, left, related)
+  ];
+  each_index = λ k pair h. elim (slice_get-push pairs (one, two) pair k h) [
+    | inl there ↦ still places (Some (length pairs) ∷ []) (pair.0 * count_of s.two + pair.1) (Some k) (p.each_index k pair there)
+    | inr end ↦ rw (← end.1, end.0) (pushed places (Some (length pairs)) (one * count_of s.two + two) (sym (p.all ∙ e)))
   ];
   each_place = λ k place h. elim (slice_get-push places (Some (length pairs)) place k h) [
     | inl there ↦ let at = p.each_place k place there in (at.0, at.1, at.2, grown s table pairs (one, two) at.0 place at.3)
@@ -56,6 +61,7 @@ list-other s table count one two next pairs places p left e n apart = record {
   all = length_push places None ∙ omega (arith, p.all, n);
   at_most = omega (arith, p.at_most, n);
   each_pair = p.each_pair;
+  each_index = λ k pair h. still places (None ∷ []) (pair.0 * count_of s.two + pair.1) (Some k) (p.each_index k pair h);
   each_place = λ k place h. elim (slice_get-push places None place k h) [
     | inl there ↦ p.each_place k place there
     | inr end ↦ rw (← end.1) ((one, two), left, end.0 ∙ (p.all ∙ e), apart)

@@ -49,6 +49,7 @@ pub record IsListed (s : SeqsView) (table : List Bool) (count : ℕ) (pairs : Li
   pub all : length places ≡ count
   pub at_most : length pairs ≤ count
   pub each_pair : (k : ℕ) (pair : ℕ × ℕ) → slice_get pairs k ≡ Some pair → IsPair s table pair
+  pub each_index : (k : ℕ) (pair : ℕ × ℕ) → slice_get pairs k ≡ Some pair → slice_get places (pair.0 * count_of s.two + pair.1) ≡ Some (Some k)
   pub each_place : (k : ℕ) (place : Option ℕ) → slice_get places k ≡ Some place → IsPlaceAt s table pairs k place
 
 -- the rules of the table, the list and the indices

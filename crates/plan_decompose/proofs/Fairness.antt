@@ -1,21 +1,16 @@
 -- A choice at the centre of a star keeps every relevant pair that the two plans play positive. The statements speak of one
 -- player v, the other player w, whether a set of v is connected to one of w, and the value at a sequence of v and one of w.
-use Rattle.std.proofs.Common.{◌≡◌, ◌⊎◌, ℕ, ◌+◌, ◌<◌, ◌≤◌, zero, suc, Bool, true, ℤ, pos, ◌≤ℤ◌, List, Option, Some, None, length, set, slice_get, refl, sym, subst, ap, ◌∙◌, inl, inr, arith}
-use Rattle.std.proofs.lemmas.Bool.{cases_eq}
+use Rattle.std.proofs.Common.{◌≡◌, ℕ, ◌+◌, ◌<◌, zero, suc, Bool, true, ℤ, pos, ◌≤ℤ◌, List, Option, Some, None, slice_get, refl, ap, ◌∙◌, arith}
 use Rattle.std.proofs.lemmas.Int.{ints}
-use Rattle.std.proofs.lemmas.List.{length-set}
 use Rattle.std.proofs.lemmas.Option.{slice_get_within}
 use Rattle.exact_algebra.specs.Sums.{sum_to}
 use Rattle.exact_algebra.proofs.Sums.{sum_to-nothing}
 use Rattle.exact_algebra.proofs.SumOrder.{sum_to_at_most, term_at_most}
 use Rattle.corr_game.specs.declared.nodes.SetId.{SetId}
 use Rattle.sequences.specs.declared.places.Place.{Place}
-use Rattle.sequences.specs.Number.{SideView, IsSide, Ends, IsOwn, Plays, nothing, further, last_of, count_of}
-use Rattle.sequences.proofs.Adding.{within}
-use Rattle.sequences.proofs.Holding.{own_lower, own_in, plays-back}
+use Rattle.sequences.specs.Number.{SideView, IsSide, Plays, nothing, further, last_of, count_of}
+use Rattle.sequences.proofs.Holding.{plays-back}
 use Rattle.connected_pairs.specs.Connected.{IsPrefix, itself, longer}
-use Rattle.plan_decompose.specs.OpenSets.{AreOpened, Moves}
-use Rattle.plan_decompose.proofs.Walking.{IsLed, set_same, set_other, last_is, plays_more, plays_less}
 
 -- a last move, if there is one, is at a set with this property
 abbrev pub Near : (ℕ → Bool) → Option (SetId × ℕ) → Type 0

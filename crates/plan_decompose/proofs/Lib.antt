@@ -2,9 +2,13 @@ pub mod Choosing
 pub mod Fairness
 pub mod Going
 pub mod Joining
+pub mod Least
 pub mod Parts
 pub mod Ranges
+pub mod Rest
 pub mod Stars
 pub mod Sums
 pub mod Taking
+pub mod Turns
 pub mod Walking
+pub mod Whole

@@ -1,12 +1,12 @@
 -- What holds between the two players' parts of a walk, and that a choice at the centre of a star keeps it.
-use Rattle.std.proofs.Common.{◌≡◌, ◌⊎◌, ℕ, ◌+◌, ◌<◌, ◌≤◌, zero, suc, Bool, true, ℤ, pos, ◌≤ℤ◌, List, Option, Some, None, length, set, slice_get, refl, sym, subst, ap, ◌∙◌, inl, inr, arith}
+use Rattle.std.proofs.Common.{◌≡◌, ◌⊎◌, ℕ, ◌+◌, ◌<◌, Bool, true, ℤ, pos, ◌≤ℤ◌, List, Option, Some, None, length, set, slice_get, refl, sym, ap, ◌∙◌, inl, inr, arith}
 use Rattle.std.proofs.lemmas.Bool.{cases_eq}
 use Rattle.std.proofs.lemmas.Int.{ints}
 use Rattle.std.proofs.lemmas.List.{length-set}
 use Rattle.std.proofs.lemmas.Option.{slice_get_within}
 use Rattle.corr_game.specs.declared.nodes.SetId.{SetId}
 use Rattle.sequences.specs.declared.places.Place.{Place}
-use Rattle.sequences.specs.Number.{SideView, IsSide, Ends, IsOwn, Plays, nothing, further, last_of, count_of}
+use Rattle.sequences.specs.Number.{SideView, Ends, IsOwn, Plays, further, last_of}
 use Rattle.sequences.proofs.Adding.{within}
 use Rattle.sequences.proofs.Holding.{none-empty}
 use Rattle.connected_pairs.proofs.Indices.{move_in}

@@ -1,6 +1,6 @@
 -- Weighted pairs of plans, and what they add up to at pairs of sequences: the joint plans behind the correlation rows
 -- of von Stengel and Forges (2008).
-use Rattle.std.specs.Prelude.{ℕ, ◌≡◌, ◌≤ℤ◌, ◌+ℤ◌, ◌-ℤ◌, ◌⊎◌, ℤ, pos, List, [], ◌∷◌, Option, Some, slice_get, slice_index_or}
+use Rattle.std.specs.Prelude.{ℕ, ◌≡◌, ◌<◌, ◌≤ℤ◌, ◌+ℤ◌, ◌-ℤ◌, ◌⊎◌, ℤ, pos, List, [], ◌∷◌, Option, Some, length, slice_get, slice_index_or}
 use Rattle.corr_game.specs.declared.plans.Pair.{Pair}
 use Rattle.corr_game.specs.declared.sides.Side.TheVariants.{One, Two}
 use Rattle.corr_game.specs.Game.{GameView}
@@ -38,3 +38,13 @@ LosesWeight s one two pair weight old new =
 abbrev pub AreTakenOff : PairsView → List (Option ℕ) → List (Option ℕ) → ℤ → List ℤ → List ℤ → Type 0
 AreTakenOff p one two weight old new = (k : ℕ) (pair : ℕ × ℕ) → slice_get p.pairs k ≡ Some pair
     → LosesWeight p.seqs one two pair weight (slice_index_or old k (pos 0)) (slice_index_or new k (pos 0))
+
+-- a place is that of a relevant pair that both plans play, and no other such pair has a lower value
+pub record IsLeast (p : PairsView) (one two : List (Option ℕ)) (values : List ℤ) (place : ℕ) : Type 0 where
+  pub in_range : place < length values
+  pub played : (pair : ℕ × ℕ) × ((slice_get p.pairs place ≡ Some pair) × PlayBoth p.seqs one two pair)
+  pub least : (k : ℕ) (pair : ℕ × ℕ) → slice_get p.pairs k ≡ Some pair → PlayBoth p.seqs one two pair → slice_index_or values place (pos 0) ≤ℤ slice_index_or values k (pos 0)
+
+-- there is no relevant pair that both plans play
+abbrev pub NonePlayed : PairsView → List (Option ℕ) → List (Option ℕ) → Type 0
+NonePlayed p one two = (k : ℕ) (pair : ℕ × ℕ) → slice_get p.pairs k ≡ Some pair → PlayBoth p.seqs one two pair → ⊥

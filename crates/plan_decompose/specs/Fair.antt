@@ -1,8 +1,8 @@
 -- What holds between the two players' parts of a walk while it goes on.
-use Rattle.std.specs.Prelude.{ℕ, ◌≡◌, ◌⊎◌, ◌≤ℤ◌, ℤ, pos, Bool, true, List, Option, Some, slice_get}
+use Rattle.std.specs.Prelude.{ℕ, ◌≡◌, ◌⊎◌, ℤ, Bool, true, List, Option, Some, slice_get}
 use Rattle.corr_game.specs.declared.nodes.SetId.{SetId}
 use Rattle.corr_game.specs.declared.sides.Side.{Side}
-use Rattle.corr_game.specs.declared.sides.Side.TheVariants.{One, Two}
+use Rattle.corr_game.specs.declared.sides.Side.TheVariants.{One}
 use Rattle.sequences.specs.declared.places.Place.{Place}
 use Rattle.sequences.specs.Number.{SideView, Plays, last_of, side_of}
 use Rattle.connected_pairs.specs.Connected.{PairsView, IsPrefix, IsTouched, are_connected, other, touches}

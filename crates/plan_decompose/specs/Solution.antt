@@ -1,6 +1,6 @@
 -- Values that meet the correlation rows (von Stengel and Forges 2008), in a game without a triangle (Farina and Sandholm
 -- 2020), and what two plans that are picked by them play.
-use Rattle.std.specs.Prelude.{ℕ, ◌≡◌, ◌⊎◌, ◌+◌, ◌<◌, ◌≤ℤ◌, ℤ, pos, Bool, true, List, Option, Some, None, slice_get, slice_index_or}
+use Rattle.std.specs.Prelude.{ℕ, ◌≡◌, ◌⊎◌, ◌+◌, ◌<◌, ◌≤ℤ◌, ℤ, pos, negsuc, zero, suc, Bool, true, List, [], ◌∷◌, Option, Some, None, slice_get, slice_index_or}
 use Rattle.exact_algebra.specs.Sums.{sum_to}
 use Rattle.corr_game.specs.declared.nodes.SetId.{SetId}
 use Rattle.corr_game.specs.declared.sides.Side.{Side}
@@ -48,3 +48,14 @@ pub record IsSolution (p : PairsView) (values : List ℤ) : Type 0 where
 abbrev pub ArePositive : (v w : SideView) → (ℕ → ℕ → Bool) → (ℕ → ℕ → ℤ) → List (Option ℕ) → List (Option ℕ) → Type 0
 ArePositive v w join value plan_v plan_w =
     (x y : ℕ) → Plays v plan_v x → Plays w plan_w y → ((a b : SetId × ℕ) → last_of v x ≡ Some a → last_of w y ≡ Some b → join a.0.0 b.0.0 ≡ true) → pos 1 ≤ℤ value x y
+
+-- 1 at a positive number, 0 at another
+abbrev pub one_if_positive : ℤ → ℕ
+one_if_positive (pos zero) = 0
+one_if_positive (pos (suc n)) = 1
+one_if_positive (negsuc n) = 0
+
+-- how many values are positive
+abbrev pub positives : List ℤ → ℕ
+positives [] = 0
+positives (z ∷ zs) = one_if_positive z + positives zs

@@ -1,7 +1,9 @@
-ghost use Rattle.std.specs.Prelude.{◌≡◌, ◌≤◌, ◌↔◌, ℕ, pos, length, slice_get, slice_index_or, All, IfOk, IsTrue, Some};
+ghost use Rattle.std.specs.Prelude.{◌≡◌, ◌≤◌, ◌↔◌, ℕ, pos, length, slice_get, slice_index_or, All, IfOk, IsTrue, Some, Err};
 ghost use Rattle.corr_num.specs.Narrow.{Narrow};
 ghost use Rattle.connected_pairs.specs.Connected.{IsPairsOf};
 ghost use Rattle.plan_decompose.specs.Entry.{IsEntry, SumsTo};
+ghost use Rattle.plan_decompose.specs.Solution.{IsSolution};
+ghost use Rattle.plan_decompose.specs.declared.ends.DecomposeEnd.TheVariants.{NotBuilt};
 
 use crate::ends::DecomposeEnd;
 use crate::entries::take_entry;
@@ -25,6 +27,7 @@ pub fn decompose(
         (λ list. (k : ℕ) (pair : ℕ × ℕ) → slice_get pairs.now.pairs k ≡ Some pair → SumsTo pairs.now.seqs pair list (slice_index_or values k (pos 0))) }
     ensures some { IfOk result (λ list. 1 ≤ length list) }
     ensures few { IfOk result (λ list. length list ≤ length pairs.now.pairs) }
+    ensures goes_on { IsSolution pairs.now values → result ≡ Err NotBuilt → ⊥ }
 {
     let mut rest = copied(alloc, &values)?;
     let mut list = PairList::new(alloc);

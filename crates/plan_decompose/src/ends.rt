@@ -4,8 +4,8 @@ use std::alloc::{AllocError, AllocFailed};
 #[derive(Clone, Copy, Debug, PartialEq, Eq)]
 pub enum DecomposeEnd {
     NoMemory,
-    /// Interim: a walk found no positive value to go on with, or values were left after all turns. It goes once
-    /// values that meet the correlation rows are proved to end in neither.
+    /// Interim: a walk found no positive value to go on with, or values were left after all turns. Neither comes where
+    /// the values are a solution; it goes once callers show that theirs are.
     NotBuilt,
 }
 

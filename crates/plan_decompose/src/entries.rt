@@ -1,7 +1,9 @@
-ghost use Rattle.std.specs.Prelude.{◌≡◌, ◌<◌, ◌↔◌, ◌≤ℤ◌, ℕ, pos, length, slice_get, slice_index_or, All, IfOk, IsTrue, Some};
+ghost use Rattle.std.specs.Prelude.{◌≡◌, ◌<◌, ◌≤◌, ◌+◌, ◌↔◌, ◌⊎◌, ◌≤ℤ◌, ℕ, pos, length, slice_get, slice_index_or, All, IfNone, IfOk, IfSome, IsTrue, Some, Err};
 ghost use Rattle.corr_num.specs.Narrow.{Narrow};
 ghost use Rattle.connected_pairs.specs.Connected.{IsPairs, IsPairsOf};
-ghost use Rattle.plan_decompose.specs.Entry.{AreTakenOff, IsEntry, PlayBoth};
+ghost use Rattle.plan_decompose.specs.Entry.{AreTakenOff, IsEntry, IsLeast, NonePlayed, PlayBoth};
+ghost use Rattle.plan_decompose.specs.Solution.{IsSolution, MeetsRows, positives};
+ghost use Rattle.plan_decompose.specs.declared.ends.DecomposeEnd.TheVariants.{NotBuilt};
 
 use crate::ends::DecomposeEnd;
 use crate::picks::pick;
@@ -20,15 +22,20 @@ pub fn take_entry(
     requires whose { IsPairsOf game.now pairs.now }
     requires rules { IsPairs pairs.now }
     requires per_pair { length values.old ≡ length pairs.now.pairs }
-    requires some { 0 < length pairs.now.pairs }
     requires narrow { All Narrow values.old }
     ensures entry { IfOk result (λ entry. IsEntry game.now pairs.now.seqs entry) }
     ensures taken { IfOk result
         (λ entry. AreTakenOff pairs.now entry.one entry.two entry.weight values.old values.new) }
     ensures narrow { IfOk result (λ _. All Narrow values.new) }
+    ensures fewer { IfOk result (λ _. positives values.new + 1 ≤ positives values.old) }
+    ensures rows { IsSolution pairs.now values.old → IfOk result (λ _. MeetsRows pairs.now values.new) }
+    ensures goes_on { IsSolution pairs.now values.old → result ≡ Err NotBuilt → ⊥ }
 {
     let (one, two) = pick(alloc, game, pairs, values)?;
-    let weight = values[least_place(pairs, &one, &two, values) as usize];
+    let Some(least) = least_place(pairs, &one, &two, values) else {
+        return Err(DecomposeEnd::NotBuilt);
+    };
+    let weight = values[least as usize];
     if weight <= 0 {
         return Err(DecomposeEnd::NotBuilt);
     }
@@ -36,24 +43,42 @@ pub fn take_entry(
     Ok(Pair { one, two, weight })
 }
 
-/// The place of the least value of a relevant pair that both plans play.
-fn least_place(pairs: &Pairs, one: &Plan, two: &Plan, values: &[i128]) -> u32
+/// The place of the least value of a relevant pair that both plans play, if there is such a pair.
+fn least_place(pairs: &Pairs, one: &Plan, two: &Plan, values: &[i128]) -> Option<u32>
     requires one_per_set { length one.now ≡ length pairs.now.seqs.one.places }
     requires two_per_set { length two.now ≡ length pairs.now.seqs.two.places }
     requires per_pair { length values.now ≡ length pairs.now.pairs }
-    requires some { 0 < length values.now }
     requires narrow { All Narrow values.now }
-    ensures in_range { result < length values.now }
-    ensures least { (k : ℕ) (pair : ℕ × ℕ) → slice_get pairs.now.pairs k ≡ Some pair → PlayBoth pairs.now.seqs one.now two.now pair
-        → slice_index_or values.now result (pos 0) ≤ℤ slice_index_or values.now k (pos 0) }
+    ensures none { IfNone result (NonePlayed pairs.now one.now two.now) }
+    ensures some { IfSome result (λ place. IsLeast pairs.now one.now two.now values.now place) }
 {
-    let mut least = 0;
+    let mut least = None;
     for k in 0..pairs.len() {
-        if values[k as usize] < values[least as usize] && both_play(pairs, one, two, k) {
-            least = k;
+        if !both_play(pairs, one, two, k) {
+            continue;
         }
+        least = Some(lesser(values, k, least));
     }
     least
+}
+
+/// The place of the lower value, of this place and the one found so far.
+fn lesser(values: &[i128], k: u32, least: Option<u32>) -> u32
+    requires k_in { k < length values.now }
+    requires least_in { IfSome least (λ place. place < length values.now) }
+    requires narrow { All Narrow values.now }
+    ensures one_of { (result ≡ k) ⊎ (least ≡ Some result) }
+    ensures below { slice_index_or values.now result (pos 0) ≤ℤ slice_index_or values.now k (pos 0) }
+    ensures below_least { IfSome least (λ place. slice_index_or values.now result (pos 0) ≤ℤ slice_index_or values.now place (pos 0)) }
+{
+    let Some(place) = least else {
+        return k;
+    };
+    if values[place as usize] <= values[k as usize] {
+        place
+    } else {
+        k
+    }
 }
 
 /// Takes the weight off the value of each relevant pair that both plans play.

@@ -1,5 +1,5 @@
 -- Each action of a set of the game is a move, and a prefix of a sequence is a sequence.
-use Rattle.std.proofs.Common.{◌≡◌, ◌<◌, ◌≤ℤ◌, pos, ℕ, ap, inl, inr, arith}
+use Rattle.std.proofs.Common.{◌≡◌, ◌≤ℤ◌, pos, ℕ, ap, inl, inr, arith}
 use Rattle.std.proofs.lemmas.Bool.{cases_eq}
 use Rattle.std.proofs.lemmas.Int.{ints, to_z-of_z}
 use Rattle.corr_game.specs.declared.nodes.SetId.{SetId}

@@ -1,5 +1,5 @@
 -- A second one that is found makes two.
-use Rattle.std.proofs.Common.{◌≡◌, ◌≤◌, ℕ, ◌<◌, ◌∙◌, Some, None, length, get_or, slice_get, ap, sym, refl, arith}
+use Rattle.std.proofs.Common.{◌≡◌, ◌<◌, ◌∙◌, Some, None, length, get_or, ap, sym, refl, arith}
 use Rattle.std.proofs.lemmas.Option.{slice_get-get_or}
 use Rattle.connected_pairs.specs.Connected.{other, touches}
 use Rattle.plan_decompose.proofs.Joining.{found_first, found_two, found_some, found_none}

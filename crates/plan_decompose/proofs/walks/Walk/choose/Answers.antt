@@ -1,5 +1,5 @@
 -- The open set's player has made a choice; the other player's open sets have moved beside it.
-use Rattle.std.proofs.Common.{◌∙◌, sym, refl, arith}
+use Rattle.std.proofs.Common.{refl, arith}
 use Rattle.corr_game.specs.declared.sides.Side.TheVariants.{One, Two}
 use Rattle.sequences.specs.Number.{side_of}
 use Rattle.connected_pairs.proofs.Indices.{move_in}
