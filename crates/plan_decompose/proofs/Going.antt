@@ -1,5 +1,6 @@
 -- The lemmas over two players, for player 1 and player 2 of a game.
 use Rattle.std.proofs.Common.{◌≡◌, ℕ, Bool, ℤ, pos, ◌≤ℤ◌, List, Option, Some, None, set, slice_index_or, sym, ap, ◌∙◌, inl, inr, arith}
+use Rattle.std.proofs.lemmas.Bool.{cases_eq}
 use Rattle.std.proofs.lemmas.Int.{ints}
 use Rattle.std.proofs.lemmas.Option.{slice_get_within}
 use Rattle.corr_game.specs.declared.nodes.SetId.{SetId}
@@ -9,6 +10,7 @@ use Rattle.corr_game.specs.Game.{GameView}
 use Rattle.sequences.specs.Number.{SideView, Ends, nothing, last_of, side_of}
 use Rattle.sequences.proofs.Adding.{within}
 use Rattle.connected_pairs.specs.Connected.{PairsView, IsPairs, IsPairsOf, IsTouched, are_connected, index_of, other, touches}
+use Rattle.triangle_test.specs.declared.triangles.Quad.{Quad}
 use Rattle.plan_decompose.specs.declared.opens.Open.{Open}
 use Rattle.plan_decompose.specs.declared.walks.Walk.{Walk}
 use Rattle.plan_decompose.specs.Fair.{IsCentre, IsFair, IsHalf, IsLongest, IsNext, IsNotOne, IsOnlyJoined, Waits}
@@ -70,10 +72,24 @@ positive_from_one : (p : PairsView) (values : List ℤ) (one two : List (Option 
 positive_from_one p values one two h x y px py relevant = h y x py px (λ b a f e. relevant a b e f)
 
 no_path_one : (p : PairsView) {values : List ℤ} → IsSolution p values → HasNoPath p.seqs.one p.seqs.two (λ i k. are_connected p i k)
-no_path_one p s = s.no_triangle
+no_path_one p s i j k l own_one own_two oi oj ok ol ik jk jl = elim (cases_eq i j) [
+  | inl same ↦ inl same
+  | inr apart ↦ elim (cases_eq k l) [
+    | inl same ↦ inr same
+    | inr other_apart ↦
+        let quad : Quad = record { one_a = record { 0 = j }; one_b = record { 0 = i }; two_a = record { 0 = l }; two_b = record { 0 = k } } in
+        absurd (s.no_triangle quad (record {
+          one = (λ e. apart (sym e), (own_one, oj, oi));
+          two = (λ e. other_apart (sym e), (own_two, ol, ok));
+          first = jl;
+          second = ik;
+          across = jk;
+        }))
+  ]
+]
 
 no_path_two : (p : PairsView) {values : List ℤ} → IsSolution p values → HasNoPath p.seqs.two p.seqs.one (λ k i. are_connected p i k)
-no_path_two p s i j k l own_two own_one oi oj ok ol ik jk jl = elim (s.no_triangle l k j i own_one own_two ol ok oj oi jl jk ik) [
+no_path_two p s i j k l own_two own_one oi oj ok ol ik jk jl = elim (no_path_one p s l k j i own_one own_two ol ok oj oi jl jk ik) [
   | inl same ↦ inr (sym same)
   | inr same ↦ inl (sym same)
 ]

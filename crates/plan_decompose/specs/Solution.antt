@@ -1,13 +1,15 @@
 -- Values that meet the correlation rows (von Stengel and Forges 2008), in a game without a triangle (Farina and Sandholm
 -- 2020), and what two plans that are picked by them play.
-use Rattle.std.specs.Prelude.{ℕ, ◌≡◌, ◌⊎◌, ◌+◌, ◌<◌, ◌≤ℤ◌, ℤ, pos, negsuc, zero, suc, Bool, true, List, [], ◌∷◌, Option, Some, None, slice_get, slice_index_or}
+use Rattle.std.specs.Prelude.{ℕ, ◌≡◌, ◌+◌, ◌<◌, ◌≤ℤ◌, ℤ, pos, negsuc, zero, suc, Bool, true, List, [], ◌∷◌, Option, Some, None, slice_get, slice_index_or}
 use Rattle.exact_algebra.specs.Sums.{sum_to}
 use Rattle.corr_game.specs.declared.nodes.SetId.{SetId}
 use Rattle.corr_game.specs.declared.sides.Side.{Side}
 use Rattle.corr_game.specs.declared.sides.Side.TheVariants.{One, Two}
 use Rattle.sequences.specs.declared.places.Place.{Place}
-use Rattle.sequences.specs.Number.{SideView, IsOwn, Plays, count_of, last_of, side_of}
-use Rattle.connected_pairs.specs.Connected.{PairsView, IsTouched, are_connected, index_of, other, touches}
+use Rattle.sequences.specs.Number.{SideView, Plays, count_of, last_of, side_of}
+use Rattle.connected_pairs.specs.Connected.{PairsView, IsTouched, index_of, other, touches}
+use Rattle.triangle_test.specs.Triangle.{IsTriangle}
+use Rattle.triangle_test.specs.declared.triangles.Quad.{Quad}
 
 -- the value at an index, and 0 where there is none
 abbrev pub value_at : List ℤ → Option ℕ → ℤ
@@ -24,11 +26,6 @@ abbrev pub IsClosedBack : PairsView → Side → Type 0
 IsClosedBack p side = (set k : ℕ) (place : Place) (move : SetId × ℕ) → touches p side set k ≡ true → slice_get (side_of side p.seqs).places set ≡ Some place
     → last_of (side_of side p.seqs) place.own ≡ Some move → touches p side move.0.0 k ≡ true
 
--- of two sets of each player with one own sequence per player, no three pairs are connected, or two of the sets are one
-abbrev pub HasNoTriangle : PairsView → Type 0
-HasNoTriangle p = (i j k l own_one own_two : ℕ) → IsOwn p.seqs.one i own_one → IsOwn p.seqs.one j own_one → IsOwn p.seqs.two k own_two → IsOwn p.seqs.two l own_two
-    → are_connected p i k ≡ true → are_connected p j k ≡ true → are_connected p j l ≡ true → (i ≡ j) ⊎ (k ≡ l)
-
 -- values of 0 or more by which each set passes on what its own sequence has, beside each sequence of the other player that
 -- is empty or whose last set is connected to it
 pub record MeetsRows (p : PairsView) (values : List ℤ) : Type 0 where
@@ -42,7 +39,7 @@ pub record IsSolution (p : PairsView) (values : List ℤ) : Type 0 where
   pub rows : MeetsRows p values
   pub total : pos 1 ≤ℤ value_of p values One 0 0
   pub closed : (side : Side) → IsClosedBack p side
-  pub no_triangle : HasNoTriangle p
+  pub no_triangle : (quad : Quad) → IsTriangle p quad → ⊥
 
 -- the relevant pairs of sequences that both plans play are positive
 abbrev pub ArePositive : (v w : SideView) → (ℕ → ℕ → Bool) → (ℕ → ℕ → ℤ) → List (Option ℕ) → List (Option ℕ) → Type 0

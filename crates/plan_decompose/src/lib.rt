@@ -1,8 +1,9 @@
-//! Whole numbers that meet the correlation rows as weights of pairs of plans.
+//! Whole numbers at the relevant pairs of sequences as weights of pairs of plans.
 //!
-//! It stands on `connected_pairs`. A walk over the sets that chosen actions leave open gives two plans that play
-//! relevant pairs of positive value alone; `decompose` takes such pairs of plans off the values until none is left.
-//! The layer above uses `decompose`, and `pick` for one pair of plans.
+//! It stands on `connected_pairs` and `triangle_test`. A walk settles one open set at a time, a set to which the chosen
+//! actions lead, and so picks two reduced plans; `decompose` takes such pairs of plans off the values until none is
+//! left. What it answers is right for any values. That it answers is told of a solution: values that meet the
+//! correlation rows, with a positive total, in a game without a triangle.
 #![tactic(auto)]
 
 mod actions;
