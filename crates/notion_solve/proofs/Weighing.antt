@@ -7,6 +7,7 @@ use Rattle.corr_game.specs.declared.plans.Pair.{Pair}
 use Rattle.corr_game.specs.declared.sides.Side.{Side}
 use Rattle.corr_game.specs.Game.{GameView, IsGame, sets_of}
 use Rattle.corr_game.specs.Plan.{IsPlan}
+use Rattle.sequences.specs.Number.{SeqsView}
 use Rattle.plane_hull.specs.declared.sides.SideRow.{SideRow}
 use Rattle.plan_decompose.specs.Entry.{IsEntry}
 use Rattle.polygon_sweep.specs.Swept.{IsSideAmong}
@@ -27,11 +28,11 @@ plan_actions side g plan rules is k d inside =
     let set = set_at side g k rules (omega (arith, is.per_set, inside)) in
     is_action (get_or plan k d) (λ action named. omega (arith, is.in_range k action set.0 (slice_get-get_or plan k d inside ∙ ap Some named) set.1, set.2))
 
-pub entry_pair : (g : GameView) (pair : Pair) → IsGame g → IsEntry g pair → IsPair pair
-entry_pair g pair rules entry = ((entry.positive, entry.narrow), plan_actions _ g pair.one rules entry.plan_one, plan_actions _ g pair.two rules entry.plan_two)
+pub entry_pair : (g : GameView) (s : SeqsView) (pair : Pair) → IsGame g → IsEntry g s pair → IsPair pair
+entry_pair g s pair rules entry = ((entry.positive, entry.narrow), plan_actions _ g pair.one rules entry.plan_one, plan_actions _ g pair.two rules entry.plan_two)
 
-pub entry_pairs : (g : GameView) (pairs : List Pair) → IsGame g → All (IsEntry g) pairs → All IsPair pairs
-entry_pairs g pairs rules all k d inside = entry_pair g _ rules (all k d inside)
+pub entry_pairs : (g : GameView) (s : SeqsView) (pairs : List Pair) → IsGame g → All (IsEntry g s) pairs → All IsPair pairs
+entry_pairs g s pairs rules all k d inside = entry_pair g s _ rules (all k d inside)
 
 pub side_ranges : (rows corners : ℕ) (side : SideRow) → IsSideAmong rows corners side → IsSide corners side
 side_ranges rows corners side h = (h.0.coprime, h.1, (let above = h.0.positive in omega (arith, ints), h.0.den), h.0.first, h.0.second)
