@@ -1,9 +1,16 @@
 //! Acceptance tests: the program's answers on whole files against values that are published or were worked out by hand.
 //!
 //! It stands on all crates and no layer stands on it: it has tests alone, and no public function. `games` has the files,
-//! `runs` the way of a text through `corr_run::run`. `reports` and `refusals` compare what is printed.
+//! `generated` those that a rule writes, and `runs` the way of a text through `corr_run::run`.
+//!
+//! - `reports`, `notions`, `refusals` and `families` compare what is printed
+//! - `equilibria` counts out, over all plans and all deviations, that each distribution that is found is an equilibrium
+//! - `certificates` multiplies out that each side's multipliers bound each column of the program
+//! - `belts` goes round the sides: with the two before, a polygon is neither too small nor too large
 #![tactic(auto)]
 
+#[cfg(test)]
+mod belts;
 #[cfg(test)]
 mod certificates;
 #[cfg(test)]
@@ -18,6 +25,8 @@ mod families;
 mod games;
 #[cfg(test)]
 mod generated;
+#[cfg(test)]
+mod notions;
 #[cfg(test)]
 mod opened;
 #[cfg(test)]
