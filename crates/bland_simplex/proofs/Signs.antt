@@ -1,5 +1,5 @@
 -- The sign of a reduced cost is the order of two products, so that a column improves where the tests of the code say so.
-use Rattle.std.proofs.Common.{◌≡◌, ◌⊎◌, inl, inr, ◌^◌, ◌<◌, Bool, true, false, ℤ, pos, ◌+ℤ◌, ◌-ℤ◌, ◌*ℤ◌, ◌<ℤ◌, IsTrue, to_z, of_z, int_cmp, Less, Equal, Greater, refl, sym, ◌∙◌, arith}
+use Rattle.std.proofs.Common.{◌≡◌, ◌⊎◌, inl, inr, Bool, true, false, ℤ, pos, ◌+ℤ◌, ◌-ℤ◌, ◌*ℤ◌, ◌<ℤ◌, IsTrue, to_z, of_z, int_cmp, Less, Equal, Greater, refl, arith}
 use Rattle.std.specs.Bool.{◌==◌}
 use Rattle.std.specs.Int.{w128}
 use Rattle.std.specs.Ordering.{MatchOrdering, ordering_index}

@@ -1,5 +1,5 @@
 -- Artificial columns that can't be driven out of the basis.
-use Rattle.std.specs.Prelude.{◌≡◌, ℕ, ◌<◌, ◌≤◌, ℤ, pos}
+use Rattle.std.specs.Prelude.{◌≡◌, ℕ, ◌<◌, ◌≤◌, pos}
 use Rattle.int_tableau.specs.Content.{Content}
 
 -- a row with a basic artificial column is 0 in the program's columns

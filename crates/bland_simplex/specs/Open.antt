@@ -1,5 +1,5 @@
 -- Tableaus of a program that may be asked and pivoted.
-use Rattle.std.specs.Prelude.{◌≡◌, ℕ, ◌+◌, ◌<◌, false, ℤ, pos, length}
+use Rattle.std.specs.Prelude.{◌≡◌, ℕ, ◌+◌, ◌<◌, false, pos, length}
 use Rattle.lp_form.specs.Program.{LpView, right_of}
 use Rattle.int_tableau.specs.Content.{Content, IsTableau}
 

@@ -1,7 +1,5 @@
 -- A multiplier is the difference of two numbers of 0 or more, so it is narrow as they are.
-use Rattle.std.proofs.Common.{◌≡◌, ◌+◌, ◌<◌, ℤ, pos, ◌-ℤ◌, ◌≤ℤ◌, ◌∙◌, arith}
-use Rattle.std.proofs.lemmas.Int.{ints}
-use Rattle.corr_num.specs.Narrow.{Narrow}
+use Rattle.std.proofs.Common.{◌+◌, arith}
 use Rattle.bland_simplex.proofs.Read.{read_more, read_difference}
 use Rattle.bland_simplex.proofs.first_phase.multipliers.Goals as goal
 

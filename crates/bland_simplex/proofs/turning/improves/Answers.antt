@@ -1,6 +1,5 @@
 -- Each arm knows the sign of the reduced cost, and where that is 0 the second comparison decides.
-use Rattle.std.proofs.Common.{ℤ, Less, Equal, Greater}
-use Rattle.corr_num.specs.Narrow.{Narrow}
+use Rattle.std.proofs.Common.{Less, Equal, Greater}
 use Rattle.bland_simplex.proofs.Signs.{reduced_sign, left_sign, when_below, when_level, when_above}
 use Rattle.bland_simplex.proofs.turning.improves.Goals as goal
 
