@@ -15,3 +15,6 @@ mod reports;
 pub use parts::{add_frac, add_multipliers, add_pair, add_place, add_side};
 pub use refusals::write_refusal;
 pub use reports::write_report;
+
+#[cfg(test)]
+mod tests;
