@@ -1,0 +1,102 @@
+// The values of single pieces.
+ghost use Rattle.std.specs.Prelude.{◌≡◌, ◌<◌, ◌≤◌, ◌^◌, length, IfSome, IsTrue, unsigned_abs};
+ghost use Rattle.std.specs.Int.{IsGcd};
+
+use corr_game::Notion;
+use corr_num::{Frac, difference, gcd};
+
+/// The digits' value, where they have no leading zero and their value is below the limit.
+pub(crate) fn magnitude(digits: &[u8], limit: u128) -> Option<u128>
+    ensures { IfSome result (λ value. value < limit) }
+{
+    if digits.is_empty() || (digits[0] == b'0' && digits.len() > 1) {
+        return None;
+    }
+    let mut value = 0u128;
+    for digit in digits {
+        if !digit.is_ascii_digit() {
+            return None;
+        }
+        value = value
+            .checked_mul(10)?
+            .checked_add(u128::from(*digit - b'0'))?;
+    }
+    if value < limit { Some(value) } else { None }
+}
+
+/// The value of a whole number, where its magnitude is below the limit. Zero has no sign.
+pub(crate) fn whole(word: &[u8], limit: u128) -> Option<i128>
+    requires { limit ≤ 2 ^ 126 }
+    ensures { IfSome result (λ value. unsigned_abs value < limit) }
+{
+    match word {
+        [b'-', digits @ ..] => negative(digits, limit),
+        _ => Some(magnitude(word, limit)? as i128),
+    }
+}
+
+fn negative(digits: &[u8], limit: u128) -> Option<i128>
+    requires { limit ≤ 2 ^ 126 }
+    ensures { IfSome result (λ value. unsigned_abs value < limit) }
+{
+    let size = magnitude(digits, limit)?;
+    if size == 0 {
+        return None;
+    }
+    Some(difference(0, size as i128))
+}
+
+/// How many bytes stand before the first slash, which may be all.
+fn before_slash(word: &[u8]) -> usize
+    ensures { result ≤ length word.now }
+{
+    let mut n = 0;
+    while n < word.len() && word[n] != b'/' {
+        n += 1;
+    }
+    n
+}
+
+/// The value of a whole number or of a quotient in lowest terms.
+pub(crate) fn fraction(word: &[u8]) -> Option<Frac> {
+    let (num, rest) = word.split_at(before_slash(word));
+    let num = whole(num, 1 << 126)?;
+    match rest {
+        [_, den @ ..] => quotient(num, den),
+        [] => Some(Frac::of(num, 1)),
+    }
+}
+
+fn quotient(num: i128, den: &[u8]) -> Option<Frac>
+    requires { unsigned_abs num < 2 ^ 126 }
+{
+    let den = magnitude(den, 1 << 126)? as i128;
+    if den < 2 {
+        return None;
+    }
+    let value = Frac::of(num, den);
+    if value.den() == den {
+        Some(value)
+    } else {
+        None
+    }
+}
+
+pub(crate) fn are_coprime(a: i128, b: i128) -> bool
+    ensures { IsTrue result → IsGcd (unsigned_abs a) (unsigned_abs b) 1 }
+{
+    gcd(a.unsigned_abs(), b.unsigned_abs()) == 1
+}
+
+pub(crate) fn notion(word: &[u8]) -> Option<Notion> {
+    if word == b"efce".as_slice() {
+        return Some(Notion::Efce);
+    }
+    if word == b"efcce".as_slice() {
+        return Some(Notion::Efcce);
+    }
+    if word == b"nfcce".as_slice() {
+        return Some(Notion::Nfcce);
+    }
+    None
+}
