@@ -1,2 +1,3 @@
 pub mod Ends
 pub mod Outcome
+pub mod WideBlock

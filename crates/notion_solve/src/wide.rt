@@ -1,6 +1,7 @@
 // The block of a tableau that is too wide.
 ghost use Rattle.std.specs.Prelude.{◌≡◌, ◌^◌, ◌<◌, length, IfOk};
 ghost use Rattle.report_form.specs.Ranges.{AscendFrom, IsBlock};
+ghost use Rattle.notion_solve.specs.WideBlock.{IsWideAt};
 
 use int_tableau::Tableau;
 use lp_form::Place;
@@ -35,7 +36,8 @@ fn marked(alloc: Global, marks: &[bool]) -> Result<ColumnList, NoMemory>
 
 /// The block that names the tableau's basis, in ascending order, and a place at which it is wide.
 pub fn too_wide<T: Tableau>(alloc: Global, table: &T, place: Place) -> Result<Block, NoMemory>
-    ensures { IfOk result IsBlock }
+    ensures ranges { IfOk result IsBlock }
+    ensures place { IfOk result (IsWideAt place) }
 {
     let basic = basic_columns(alloc, table)?;
     Ok(Block::TooWide {
