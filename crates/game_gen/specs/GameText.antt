@@ -1,5 +1,5 @@
--- The files of generated games: games behind a public chance move, the prisoners' dilemma, and the centipede (Rosenthal 1981).
--- All numbers below count from 0.
+-- The files of generated games: two by two games behind a public chance move (Farina and Sandholm 2020, on public chance
+-- moves), the prisoners' dilemma, and the centipede (Rosenthal 1981). All numbers below count from 0.
 use Rattle.std.specs.Prelude.{ℕ, zero, suc, ◌+◌, ◌*◌, ◌/◌, ◌%◌, List, [], ◌++◌, codes}
 use Rattle.std.specs.Fmt.{decimal}
 use Rattle.game_gen.specs.Random.{draw}
