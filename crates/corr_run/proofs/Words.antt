@@ -1,5 +1,5 @@
 -- Words that mean a command have one of two shapes: by the number of words, and then word by word.
-use Rattle.std.proofs.Common.{◌≡◌, ℕ, ◌<◌, ◌⊎◌, List, [], ◌∷◌, map, get_or, length, refl, sym, ap, ◌∙◌, inl, inr, codes, arith, suc, zero}
+use Rattle.std.proofs.Common.{◌≡◌, ℕ, ◌<◌, ◌⊎◌, List, [], ◌∷◌, map, get_or, length, sym, ap, ◌∙◌, inl, inr, codes, arith, suc, zero}
 use Rattle.corr_game.specs.declared.notions.Notion.{Notion}
 use Rattle.corr_game.specs.declared.notions.Notion.TheVariants.{Efce, Efcce, Nfcce}
 use Rattle.report_text.specs.NameText.{notion_name}

@@ -1,6 +1,6 @@
 -- What a run takes from its source.
-use Rattle.std.specs.Prelude.{◌≡◌, ℕ, ◌+◌, ◌≤◌, List, length, Option, ◌++◌}
-use Rattle.std.specs.Io.KnownBytes.{Consumes, IsAtEnd}
+use Rattle.std.specs.Prelude.{◌≡◌, ℕ, ◌≤◌, List, length, Option, ◌++◌}
+use Rattle.std.specs.Io.KnownBytes.{Consumes}
 
 -- some bytes were taken, and no more than this many
 pub record TakesAtMost (most : ℕ) (old new : Option (List ℕ)) : Type 0 where

@@ -1,6 +1,4 @@
 -- Each name is tried.
-use Rattle.std.proofs.Common.{◌≡◌}
-use Rattle.corr_game.specs.declared.notions.Notion.TheVariants.{Efce, Efcce, Nfcce}
 use Rattle.report_text.specs.NameText.{notion_name}
 use Rattle.corr_run.proofs.Words.{no_name}
 use Rattle.corr_run.proofs.commands.notion_of.Goals as goal

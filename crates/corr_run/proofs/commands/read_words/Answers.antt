@@ -1,5 +1,5 @@
 -- Each shape that the words may have is tried; other words mean no command.
-use Rattle.std.proofs.Common.{◌≡◌, ℕ, ◌<◌, List, [], inl, inr, length, map, get_or, codes, sym, ◌∙◌, eqb-true, arith}
+use Rattle.std.proofs.Common.{◌≡◌, ◌<◌, inl, inr, length, map, sym, ◌∙◌, eqb-true, arith}
 use Rattle.std.proofs.lemmas.List.{length-map}
 use Rattle.std.specs.String.{string_bytes}
 use Rattle.corr_run.specs.Words.{all, only, all_words, only_words}
