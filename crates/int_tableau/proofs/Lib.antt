@@ -1,5 +1,9 @@
 pub mod Eliminating
 pub mod ExactEntries
+pub mod OneBasis
 pub mod PartialSums
 pub mod Pivoting
 pub mod Pushing
+pub mod Reaching
+pub mod Starting
+pub mod StartStored

@@ -1,6 +1,6 @@
 -- What a pivot makes of the stored lists, and the content that they stand for: the pivot's row is put back with its signs
 -- turned, each other row is eliminated by it, and the basis and the denominator follow.
-use Rattle.std.proofs.Common.{◌≡◌, ◌≢◌, ◌⊎◌, inl, inr, ℕ, zero, suc, ◌+◌, ◌^◌, ◌<◌, ◌≤◌, Bool, true, false, List, [], ◌++◌, length, take, drop, set, slice_index_or, ℤ, pos, negsuc, ◌<ℤ◌, ◌∙◌, refl, sym, ap, arith, get_or-set_same, get_or-set_other}
+use Rattle.std.proofs.Common.{◌≡◌, ◌≢◌, ◌⊎◌, inl, inr, ℕ, zero, suc, ◌+◌, ◌^◌, ◌<◌, ◌≤◌, Bool, true, false, List, [], ◌++◌, length, take, drop, set, slice_index_or, ℤ, pos, negsuc, ◌*ℤ◌, ◌<ℤ◌, ◌∙◌, refl, sym, ap, arith, get_or-set_same, get_or-set_other}
 use Rattle.std.proofs.lemmas.Int.{ints}
 use Rattle.std.proofs.lemmas.Bool.{cases_eq}
 use Rattle.std.proofs.lemmas.List.{take_at, length-set, get_or_default}
@@ -12,8 +12,11 @@ use Rattle.corr_num.specs.Quotient.{IsQuotient}
 use Rattle.int_tableau.specs.Content.{Content, IsTableau, IsNamed}
 use Rattle.int_tableau.specs.Elimination.{IsRow, at, eliminated, IsEliminated, IsWideIn}
 use Rattle.int_tableau.specs.Naming.{NamesRow}
-use Rattle.int_tableau.specs.Pivot.{turned, numerator, IsNextBasis, IsPivoted, EndsWide}
+use Rattle.exact_linear.specs.Pivot.{turned}
+use Rattle.int_tableau.specs.Reached.{IsReached}
+use Rattle.int_tableau.specs.Pivot.{numerator, IsNextBasis, IsPivoted, EndsWide}
 use Rattle.int_tableau.specs.Stored.{Stored, content_of, IsStored}
+use Rattle.int_tableau.proofs.Reaching.{quotient_of, start_kept}
 
 -- a list that is written over whole
 pub whole_written : {A : Type 0} (n : ℕ) (new old : List A) → length new ≡ length old → n ≡ length old → take n (new ++ drop (length new) old) ≡ new
@@ -106,6 +109,39 @@ sizes_after s row col chosen others p =
     let basis = length-set s.basis row col in
     (omega (arith, p.all, p.rules.three_more), omega (arith, p.rules.artificial), omega (arith, p.rules.few_rows))
 
+quotient_at : (s : Stored) (row col : ℕ) (chosen : List ℤ) (others : List (List ℤ)) → Parts s row col chosen others → (i j : ℕ) (q : ℤ) → j < s.cols → IsQuotient (numerator (content_of s) row col i j) s.denom q → IsQuotient (eliminated (row_of s i) chosen col j) s.denom q
+quotient_at s row col chosen others p i j q h e =
+    let old = is_row s row p.rules p.fresh (omega (arith, p.program_row)) in
+    let at_col : col < length (row_of s row) = omega (arith, p.column, old.width) in
+    let at_j : j < length (row_of s row) = omega (arith, old.width) in
+    rw (p.turned_is col at_col, p.turned_is j at_j) e
+
+-- what the old denominator leaves of an entry of another row
+parts_quotient : (s : Stored) (row col : ℕ) (chosen : List ℤ) (others : List (List ℤ)) → Parts s row col chosen others → (i j : ℕ) → i < length s.rows → i ≢ row → j < s.cols → (q : ℤ) × IsQuotient (numerator (content_of s) row col i j) s.denom q
+parts_quotient s row col chosen others p i j h other k =
+    quotient_of (content_of s) row col (omega (arith, p.rules.three_more)) p.program_row p.column (p.rules.reached p.fresh) i j h other k
+
+pub pivoted_after : (s : Stored) (row col : ℕ) (chosen : List ℤ) (others : List (List ℤ)) → Parts s row col chosen others → AllEliminated s row col chosen others → IsPivoted (content_of s) (content_of (after s row col chosen others s.spent)) row col
+pivoted_after s row col chosen others p all =
+    let old = is_row s row p.rules p.fresh (omega (arith, p.program_row)) in
+    let inside : row < length others = omega (arith, p.all, p.program_row) in
+    record {
+      fresh = p.fresh;
+      basis = basis_after s row col chosen others s.spent p;
+      denom = p.turned_is col (omega (arith, p.column, old.width));
+      pivot = λ j h. rw get_or-set_same (p.turned_is j (omega (arith, old.width)));
+      others = λ i j h k other.
+          let quotient = parts_quotient s row col chosen others p i j h other k in
+          let inside : j < length (row_of s i) = omega (arith, (is_row s i p.rules p.fresh h).width) in
+          let same : at (slice_index_or (set others row chosen) i []) j ≡ quotient.0 = rw get_or-set_other ((all i h other).exact j quotient.0 inside (quotient_at s row col chosen others p i j quotient.0 k quotient.1)) in
+          ap (λ x. x *ℤ s.denom) same ∙ quotient.1;
+    }
+
+reached_after : (s : Stored) (row col : ℕ) (chosen : List ℤ) (others : List (List ℤ)) → Parts s row col chosen others → AllEliminated s row col chosen others → IsReached (content_of (after s row col chosen others s.spent))
+reached_after s row col chosen others p all =
+    let reached = p.rules.reached p.fresh in
+    (reached.0, start_kept reached.0 (content_of s) (content_of (after s row col chosen others s.spent)) row col (omega (arith, p.rules.three_more)) p.program_row p.column p.not_zero (pivoted_after s row col chosen others p all) reached.1)
+
 pub stored_after : (s : Stored) (row col : ℕ) (chosen : List ℤ) (others : List (List ℤ)) → Parts s row col chosen others → AllEliminated s row col chosen others → IsStored (after s row col chosen others s.spent)
 stored_after s row col chosen others p all =
     let sizes = sizes_after s row col chosen others p in
@@ -119,6 +155,7 @@ stored_after s row col chosen others p all =
       narrow_denom = λ fresh. pivot_narrow s row col chosen others p;
       each_row = λ fresh. All-from_get_or (IsRow s.cols) (set others row chosen) [] (λ i h.
           row_after s row col chosen others p all i (omega (arith, length-set others row chosen, p.all)) (cases_eq i row));
+      reached = λ fresh. reached_after s row col chosen others p all;
     }
 
 pub spent_after : (s : Stored) (row col : ℕ) (chosen : List ℤ) (others : List (List ℤ)) → Parts s row col chosen others → IsStored (after s row col chosen others true)
@@ -133,26 +170,7 @@ spent_after s row col chosen others p =
       positive = λ fresh. absurd (cc);
       narrow_denom = λ fresh. absurd (cc);
       each_row = λ fresh. absurd (cc);
-    }
-
-quotient_at : (s : Stored) (row col : ℕ) (chosen : List ℤ) (others : List (List ℤ)) → Parts s row col chosen others → (i j : ℕ) (q : ℤ) → j < s.cols → IsQuotient (numerator (content_of s) row col i j) s.denom q → IsQuotient (eliminated (row_of s i) chosen col j) s.denom q
-quotient_at s row col chosen others p i j q h e =
-    let old = is_row s row p.rules p.fresh (omega (arith, p.program_row)) in
-    let at_col : col < length (row_of s row) = omega (arith, p.column, old.width) in
-    let at_j : j < length (row_of s row) = omega (arith, old.width) in
-    rw (p.turned_is col at_col, p.turned_is j at_j) e
-
-pub pivoted_after : (s : Stored) (row col : ℕ) (chosen : List ℤ) (others : List (List ℤ)) → Parts s row col chosen others → AllEliminated s row col chosen others → IsPivoted (content_of s) (content_of (after s row col chosen others s.spent)) row col
-pivoted_after s row col chosen others p all =
-    let old = is_row s row p.rules p.fresh (omega (arith, p.program_row)) in
-    let inside : row < length others = omega (arith, p.all, p.program_row) in
-    record {
-      fresh = p.fresh;
-      basis = basis_after s row col chosen others s.spent p;
-      denom = p.turned_is col (omega (arith, p.column, old.width));
-      pivot = λ j h. rw get_or-set_same (p.turned_is j (omega (arith, old.width)));
-      others = λ i j q h k other e.
-          rw get_or-set_other ((all i h other).exact j q (omega (arith, (is_row s i p.rules p.fresh h).width)) (quotient_at s row col chosen others p i j q k e));
+      reached = λ fresh. absurd (cc);
     }
 
 -- a name over the basis is a name in the content
@@ -166,6 +184,7 @@ pub wide_after : (s : Stored) (row col : ℕ) (chosen : List ℤ) (others : List
 wide_after s row col chosen others i j name p h other w n =
     let columns = (is_row s i p.rules p.fresh h).width in
     let inside : j < s.cols = omega (arith, w.inside) in
+    let quotient = parts_quotient s row col chosen others p i j h other inside in
     record {
       spent = refl;
       basis = basis_after s row col chosen others true p;
@@ -174,7 +193,9 @@ wide_after s row col chosen others i j name p h other w n =
       in_rows = h;
       named = named_in (after s row col chosen others true) i name (spent_after s row col chosen others p) n;
       in_columns = inside;
-      wide = λ q e. w.wide q (quotient_at s row col chosen others p i j q inside e);
+      entry = quotient.0;
+      entry_is = quotient.1;
+      wide = w.wide quotient.0 (quotient_at s row col chosen others p i j quotient.0 inside quotient.1);
     }
 
 -- the content of what is stored is a tableau
@@ -190,6 +211,7 @@ tableau_of s rules = record {
   narrow = λ fresh row col h k.
       let r = is_row s row rules fresh h in
       All-get_or Narrow (row_of s row) col (pos 0) (omega (arith, r.width)) r.narrow;
+  reached = rules.reached;
 }
 
 -- ---- the parts as the calls say them: the row is read and taken out, turned, and the others are eliminated in place

@@ -1,25 +1,10 @@
--- The content of an integer tableau (Edmonds 1967, Bareiss 1968): whole numbers over one common denominator.
-use Rattle.std.specs.Prelude.{◌≡◌, ℕ, ◌+◌, ◌-◌, ◌^◌, ◌<◌, ◌≤◌, Bool, false, ℤ, pos, ◌<ℤ◌}
+-- The rules of an integer tableau (Edmonds 1967, Bareiss 1968), and the names of its rows.
+pub use Rattle.int_tableau.specs.Shape.{Content, IsProgramRow, IsColumn}
+use Rattle.std.specs.Prelude.{◌≡◌, ℕ, ◌+◌, ◌^◌, ◌<◌, ◌≤◌, false, pos, ◌<ℤ◌}
 use Rattle.lp_form.specs.declared.places.RowName.{RowName}
 use Rattle.lp_form.specs.declared.places.RowName.TheVariants.{Basic, First, Second, Phase}
 use Rattle.corr_num.specs.Narrow.{Narrow}
-
--- a matrix of whole numbers with the basic column of each program row and the denominator; a spent one has lost its entries
-pub record Content : Type 0 where
-  pub rows : ℕ
-  pub cols : ℕ
-  pub entry : ℕ → ℕ → ℤ
-  pub basic : ℕ → ℕ
-  pub denom : ℤ
-  pub spent : Bool
-
--- the program's rows are followed by First, Second and Phase
-abbrev pub IsProgramRow : Content → ℕ → Type 0
-IsProgramRow t row = row + 3 < t.rows
-
--- the columns of the program and the artificial ones are followed by the right sides
-abbrev pub IsColumn : Content → ℕ → Type 0
-IsColumn t col = col + 1 < t.cols
+use Rattle.int_tableau.specs.Reached.{IsReached}
 
 -- the rules of a tableau, of whose columns one per program row is artificial
 pub record IsTableau (t : Content) : Type 0 where
@@ -31,6 +16,7 @@ pub record IsTableau (t : Content) : Type 0 where
   pub positive : t.spent ≡ false → pos 0 <ℤ t.denom
   pub narrow_denom : t.spent ≡ false → Narrow t.denom
   pub narrow : t.spent ≡ false → (row col : ℕ) → row < t.rows → col < t.cols → Narrow (t.entry row col)
+  pub reached : t.spent ≡ false → IsReached t
 
 -- a row's name: a program row is named by its basic column
 abbrev pub IsNamed : Content → ℕ → RowName → Type 0

@@ -2,6 +2,8 @@ pub mod Content
 pub mod Elimination
 pub mod Naming
 pub mod Pivot
+pub mod Reached
+pub mod Shape
 pub mod Start
 pub mod StartLists
 pub mod Stored

@@ -1,16 +1,12 @@
 -- The pivot of an integer tableau (Edmonds 1967, Bareiss 1968).
-use Rattle.std.specs.Prelude.{◌≡◌, ◌≢◌, ℕ, ◌<◌, true, false, ℤ, pos, negsuc, neg_ℤ, ◌-ℤ◌, ◌*ℤ◌, Result, Ok, Err}
+use Rattle.std.specs.Prelude.{◌≡◌, ◌≢◌, ℕ, ◌<◌, true, false, ℤ, ◌-ℤ◌, ◌*ℤ◌, Result, Ok, Err}
 use Rattle.corr_num.specs.Narrow.{Wide}
 use Rattle.corr_num.specs.Quotient.{IsQuotient}
+use Rattle.exact_linear.specs.Pivot.{turned}
 use Rattle.lp_form.specs.declared.places.Place.{Place}
 use Rattle.int_tableau.specs.declared.ends.PivotEnd.{PivotEnd}
 use Rattle.int_tableau.specs.declared.ends.PivotEnd.TheVariants.{Wide as WideAt, NoMemory, NotBuilt}
 use Rattle.int_tableau.specs.Content.{Content, IsNamed}
-
--- a number, with its sign turned where the first one is negative
-abbrev pub turned : ℤ → ℤ → ℤ
-turned (pos n) z = z
-turned (negsuc n) z = neg_ℤ z
 
 -- the row at which it pivots, with its signs turned where the entry in the pivot's column is negative
 abbrev pub pivot_row : Content → ℕ → ℕ → ℕ → ℤ
@@ -27,15 +23,15 @@ pub record IsNextBasis (old new : Content) (row col : ℕ) : Type 0 where
   pub enters : new.basic row ≡ col
   pub others : (i : ℕ) → i ≢ row → new.basic i ≡ old.basic i
 
--- the tableau after a pivot; the entries of the other rows are told where the old denominator divides
+-- the tableau after a pivot; each entry of another row is the quotient by the old denominator, with nothing left over
 pub record IsPivoted (old new : Content) (row col : ℕ) : Type 0 where
   pub fresh : new.spent ≡ false
   pub basis : IsNextBasis old new row col
   pub denom : new.denom ≡ pivot_row old row col col
   pub pivot : (j : ℕ) → j < old.cols → new.entry row j ≡ pivot_row old row col j
-  pub others : (i j : ℕ) (q : ℤ) → i < old.rows → j < old.cols → i ≢ row → IsQuotient (numerator old row col i j) old.denom q → new.entry i j ≡ q
+  pub others : (i j : ℕ) → i < old.rows → j < old.cols → i ≢ row → IsQuotient (numerator old row col i j) old.denom (new.entry i j)
 
--- a place, named by the basis after the pivot, at which the matrix is wide after it if the old denominator divides there
+-- a place, named by the basis after the pivot, at which the pivoted matrix is wide
 pub record EndsWide (old new : Content) (row col : ℕ) (place : Place) : Type 0 where
   pub spent : new.spent ≡ true
   pub basis : IsNextBasis old new row col
@@ -44,7 +40,9 @@ pub record EndsWide (old new : Content) (row col : ℕ) (place : Place) : Type 0
   pub in_rows : at < old.rows
   pub named : IsNamed new at place.row
   pub in_columns : place.col < old.cols
-  pub wide : (q : ℤ) → IsQuotient (numerator old row col at place.col) old.denom q → Wide q
+  pub entry : ℤ
+  pub entry_is : IsQuotient (numerator old row col at place.col) old.denom entry
+  pub wide : Wide entry
 
 -- a pivot that memory was short for leaves a spent tableau on the basis before it
 pub record EndsShort (old new : Content) : Type 0 where

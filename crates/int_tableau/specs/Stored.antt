@@ -1,8 +1,9 @@
 -- A tableau as lists of its rows, and the content that they stand for.
 use Rattle.std.specs.Prelude.{◌≡◌, ℕ, ◌+◌, ◌^◌, ◌<◌, ◌≤◌, List, [], length, All, Bool, false, ℤ, pos, ◌<ℤ◌, slice_index, slice_index_or}
 use Rattle.corr_num.specs.Narrow.{Narrow}
-use Rattle.int_tableau.specs.Content.{Content}
+use Rattle.int_tableau.specs.Shape.{Content}
 use Rattle.int_tableau.specs.Elimination.{IsRow}
+use Rattle.int_tableau.specs.Reached.{IsReached}
 
 -- the number of columns, the rows, the basis, the denominator and whether the entries are lost
 pub record Stored : Type 0 where
@@ -33,3 +34,4 @@ pub record IsStored (s : Stored) : Type 0 where
   pub positive : s.spent ≡ false → pos 0 <ℤ s.denom
   pub narrow_denom : s.spent ≡ false → Narrow s.denom
   pub each_row : s.spent ≡ false → All (IsRow s.cols) s.rows
+  pub reached : s.spent ≡ false → IsReached (content_of s)

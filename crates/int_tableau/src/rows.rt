@@ -3,7 +3,7 @@ ghost use Rattle.std.specs.Prelude.{◌≡◌, ◌≢◌, ℕ, ◌<◌, ℤ, pos
 ghost use Rattle.corr_num.specs.Narrow.{Narrow, Wide};
 ghost use Rattle.corr_num.specs.Quotient.{IsQuotient};
 ghost use Rattle.int_tableau.specs.Elimination.{IsRow, at, IsEliminated, IsWideIn};
-ghost use Rattle.int_tableau.specs.Pivot.{turned};
+ghost use Rattle.exact_linear.specs.Pivot.{turned};
 
 use corr_num::pivot_entry;
 use std::alloc::Global;

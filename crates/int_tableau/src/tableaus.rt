@@ -40,8 +40,8 @@ pub trait Tableau {
 
     /// Makes the column basic in the row. After an error the table is spent: only its size and its basis may be asked.
     ///
-    /// That the old denominator divides each new entry, and that the row's right side is 0 where the entry is negative,
-    /// isn't asked of the caller yet. Each pivot of the simplex is such a one.
+    /// That the row's right side is 0 where the entry is negative isn't asked of the caller yet. Each pivot of the simplex
+    /// is such a one.
     fn pivot(&mut self, row: u32, col: u32) -> Result<(), PivotEnd>
         requires fresh { (content self.old).spent ≡ false }
         requires program_row { IsProgramRow (content self.old) row }
