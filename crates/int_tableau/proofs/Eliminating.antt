@@ -1,5 +1,5 @@
 -- Elimination column by column and row by row: what is passed holds the quotients, what is ahead is as it was.
-use Rattle.std.proofs.Common.{◌≡◌, ◌≢◌, ℕ, ◌+◌, ◌<◌, ◌≤◌, List, [], length, ℤ, pos, ◌*ℤ◌, ◌-ℤ◌, set, slice_index_or, to_z, of_z, arith, get_or-set_same, get_or-set_other, below_more, refl}
+use Rattle.std.proofs.Common.{◌≡◌, ◌≢◌, ℕ, ◌+◌, ◌<◌, ◌≤◌, List, [], length, ℤ, ◌*ℤ◌, ◌-ℤ◌, set, slice_index_or, to_z, of_z, arith, get_or-set_same, get_or-set_other, below_more, refl}
 use Rattle.std.specs.Int.{w64}
 use Rattle.std.proofs.lemmas.Int.{to_z-of_z}
 use Rattle.corr_num.specs.Narrow.{Narrow}

@@ -1,5 +1,5 @@
 -- What exact division leaves: 0 of 0, and the number itself of its product with the divisor.
-use Rattle.std.proofs.Common.{◌≡◌, ◌↔◌, ◌⊎◌, inl, inr, ℕ, ◌^◌, ◌<◌, ◌≤◌, ℤ, pos, ◌*ℤ◌, ◌-ℤ◌, ◌<ℤ◌, unsigned_abs, Some, None, FitsSigned, to_z, of_z, arith}
+use Rattle.std.proofs.Common.{◌≡◌, ◌↔◌, ◌⊎◌, inl, inr, ◌^◌, ℤ, pos, ◌*ℤ◌, ◌-ℤ◌, ◌<ℤ◌, unsigned_abs, Some, None, FitsSigned, to_z, of_z, arith}
 use Rattle.std.specs.Int.{w64, w128}
 use Rattle.std.proofs.lemmas.Int.{fits_signed_from_abs, to_z-of_z}
 use Rattle.std.proofs.lemmas.Bool.{cases_lt}
@@ -7,7 +7,6 @@ use Rattle.corr_num.specs.Narrow.{Narrow, Wide}
 use Rattle.corr_num.proofs.PrintedTerms.{narrow_returned}
 use Rattle.exact_algebra.proofs.Order.{cancel_positive}
 use Rattle.exact_algebra.proofs.RingTactic.{ring_laws, linear}
-use Rattle.corr_num.specs.Quotient.{IsQuotient}
 
 pub zero_of_zeros : (a p b c d q : ℤ) → a ≡ pos 0 → c ≡ pos 0 → pos 0 <ℤ d → q *ℤ d ≡ a *ℤ p -ℤ b *ℤ c → pos 0 ≡ q
 zero_of_zeros a p b c d q f g h e =

@@ -1,5 +1,5 @@
 -- Two tableaus of one start and one basis are equal up to the order of rows. By the same of whole tableaus.
-use Rattle.std.proofs.Common.{◌≡◌, ℕ, ◌+◌, ◌-◌, ◌<◌, ◌≤◌, ℤ, arith}
+use Rattle.std.proofs.Common.{ℕ, ℤ, arith}
 use Rattle.exact_linear.proofs.WholeTableaus.{same_denominator, same_row, same_cost_row}
 use Rattle.int_tableau.specs.Content.{Content}
 use Rattle.int_tableau.specs.Reached.{IsReachedFrom, HaveOneBasis, IsSameButForOrder}

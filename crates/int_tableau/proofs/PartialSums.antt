@@ -1,5 +1,5 @@
 -- A sum of numbers of 64 bits, taken one after another: each partial sum is small enough for 128 bits.
-use Rattle.std.proofs.Common.{◌≡◌, ℕ, ◌+◌, ◌*◌, ◌^◌, ◌<◌, ◌≤◌, ℤ, ◌+ℤ◌, unsigned_abs, FitsSigned, to_z, of_z, arith, sym, ◌∙◌}
+use Rattle.std.proofs.Common.{◌≡◌, ℕ, ◌+◌, ◌*◌, ◌^◌, ◌<◌, ◌≤◌, ℤ, ◌+ℤ◌, unsigned_abs, FitsSigned, to_z, of_z, arith, sym}
 use Rattle.std.specs.Int.{w64, w128}
 use Rattle.exact_algebra.specs.Sums.{sum_to}
 use Rattle.exact_algebra.proofs.Sums.{sum_to-add_one}

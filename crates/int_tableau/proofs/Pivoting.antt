@@ -7,9 +7,9 @@ use Rattle.std.proofs.lemmas.List.{take_at, length-set, get_or_default}
 use Rattle.std.proofs.lemmas.List.Elements.{All-from_get_or, All-get_or, All-set}
 use Rattle.lp_form.specs.declared.places.RowName.{RowName}
 use Rattle.lp_form.specs.declared.places.RowName.TheVariants.{Basic, First, Second, Phase}
-use Rattle.corr_num.specs.Narrow.{Narrow, Wide}
+use Rattle.corr_num.specs.Narrow.{Narrow}
 use Rattle.corr_num.specs.Quotient.{IsQuotient}
-use Rattle.int_tableau.specs.Content.{Content, IsTableau, IsNamed}
+use Rattle.int_tableau.specs.Content.{IsTableau, IsNamed}
 use Rattle.int_tableau.specs.Elimination.{IsRow, at, eliminated, IsEliminated, IsWideIn}
 use Rattle.int_tableau.specs.Naming.{NamesRow}
 use Rattle.exact_linear.specs.Pivot.{turned}

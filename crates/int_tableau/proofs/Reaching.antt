@@ -1,6 +1,6 @@
 -- Each pivot is one of the start's tableau, so that its divisions leave nothing over and it keeps the start. By the lemmas on
 -- whole tableaus, for a content as the clauses have it.
-use Rattle.std.proofs.Common.{◌≡◌, ◌≢◌, ◌⊎◌, ⊎_elim, ℕ, ◌+◌, ◌-◌, ◌<◌, ◌≤◌, ℤ, pos, ◌*ℤ◌, ◌∙◌, refl, sym, arith}
+use Rattle.std.proofs.Common.{◌≡◌, ◌≢◌, ⊎_elim, ℕ, ◌+◌, ◌-◌, ◌<◌, ◌≤◌, ℤ, pos, ◌∙◌, refl, sym, arith}
 use Rattle.std.proofs.lemmas.Bool.{cases_eq}
 use Rattle.exact_algebra.proofs.Families.{put, put-same, put-other}
 use Rattle.exact_linear.proofs.Alike.{same_whole}

@@ -1,12 +1,11 @@
 -- The lists of the starting tableau keep the rules of what is stored.
-use Rattle.std.proofs.Common.{◌≡◌, ℕ, ◌+◌, ◌^◌, ◌<◌, ◌≤◌, false, [], length, ℤ, pos, ◌<ℤ◌, slice_index, slice_index_or, ◌∙◌, arith}
+use Rattle.std.proofs.Common.{◌≡◌, ℕ, ◌+◌, ◌<◌, false, [], length, pos, slice_index_or, arith}
 use Rattle.std.proofs.lemmas.Int.{ints}
 use Rattle.std.proofs.lemmas.List.Elements.{All-from_get_or}
 use Rattle.corr_num.specs.Narrow.{Narrow}
 use Rattle.lp_form.specs.Program.{LpView, IsLp}
 use Rattle.int_tableau.proofs.Starting.{start_reached}
-use Rattle.int_tableau.specs.Elimination.{IsRow, at}
-use Rattle.int_tableau.specs.Reached.{IsReachedFrom}
+use Rattle.int_tableau.specs.Elimination.{IsRow}
 use Rattle.int_tableau.specs.Start.{StartsNarrow, IsStart, start_entry}
 use Rattle.int_tableau.specs.StartLists.{AreStartRows, IsStartBasis}
 use Rattle.int_tableau.specs.Stored.{Stored, content_of, IsStored}

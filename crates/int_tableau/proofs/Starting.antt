@@ -1,11 +1,10 @@
 -- The program's starting tableau is the tableau of its artificial basis: the artificial columns are unit vectors and cost
 -- nothing.
-use Rattle.std.proofs.Common.{◌≡◌, ◌≢◌, ⊎_elim, ℕ, ◌+◌, ◌-◌, ◌<◌, ◌≤◌, ℤ, pos, Bool, true, false, cond, nat_lt, nat_eq, neg_ℤ, length, ◌∙◌, refl, sym, ap, arith, lt-ltb, le-ltb, eq-eqb, ne_eqb}
+use Rattle.std.proofs.Common.{◌≡◌, ◌≢◌, ⊎_elim, ℕ, ◌+◌, ◌-◌, ◌<◌, ◌≤◌, pos, Bool, true, false, cond, nat_lt, nat_eq, length, refl, sym, arith, lt-ltb, le-ltb, eq-eqb, ne_eqb}
 use Rattle.std.proofs.lemmas.Bool.{cases_eq}
 use Rattle.exact_linear.proofs.Alike.{same_whole}
 use Rattle.exact_linear.proofs.Determinant.{unit, unit-same, unit-other}
 use Rattle.exact_linear.proofs.WholeTableaus.{whole_start}
-use Rattle.exact_linear.specs.Tableau.{IsTableauOf}
 use Rattle.lp_form.specs.Program.{LpView}
 use Rattle.int_tableau.specs.Content.{Content}
 use Rattle.int_tableau.specs.Reached.{IsReachedFrom}
@@ -17,9 +16,9 @@ artificial lp k c h l =
     let behind : nat_lt (lp.cols + k) lp.cols ≡ false = le-ltb (lp.cols + k) lp.cols (omega arith) in
     let not_right : nat_eq (lp.cols + k) (lp.cols + length lp.rows) ≡ false = ne_eqb (lp.cols + k) (lp.cols + length lp.rows) (omega arith) in
     rw (program, behind, not_right) (⊎_elim
-        (λ (e : k ≡ c). let own : nat_eq (lp.cols + k) (lp.cols + c) ≡ true = eq-eqb (lp.cols + k) (lp.cols + c) (omega arith) in rw own (sym (rw e (unit-same c))))
-        (λ (d : k ≢ c). let other : nat_eq (lp.cols + k) (lp.cols + c) ≡ false = ne_eqb (lp.cols + k) (lp.cols + c) (omega arith) in rw other (sym (unit-other k c d)))
-        (cases_eq k c))
+    (λ (e : k ≡ c). let own : nat_eq (lp.cols + k) (lp.cols + c) ≡ true = eq-eqb (lp.cols + k) (lp.cols + c) (omega arith) in rw own (sym (rw e (unit-same c))))
+    (λ (d : k ≢ c). let other : nat_eq (lp.cols + k) (lp.cols + c) ≡ false = ne_eqb (lp.cols + k) (lp.cols + c) (omega arith) in rw other (sym (unit-other k c d)))
+    (cases_eq k c))
 
 nothing : (x y : Bool) → cond x (pos 0) (cond y (pos 0) (pos 0)) ≡ pos 0
 nothing true y = refl

@@ -9,17 +9,14 @@ ghost use Rattle.int_tableau.specs.Start.{IsStart, start_entry};
 /// A program's starting tableau is reached from itself.
 pub fn starts_are_reached()
     ensures { (lp : LpView) (t : Content) → IsStart lp t → IsReachedFrom (start_entry lp) t }
-{
-}
+{}
 
 /// A pivot leads to a tableau of the same start.
 pub fn pivots_keep_the_start()
     ensures { (start : ℕ → ℕ → ℤ) (old new : Content) (row col : ℕ) → IsTableau old → IsProgramRow old row → IsColumn old col → old.entry row col ≢ pos 0 → IsPivoted old new row col → IsReachedFrom start old → IsReachedFrom start new }
-{
-}
+{}
 
 /// One basis has one tableau, up to the order of its program rows.
 pub fn one_basis_has_one_tableau()
     ensures { (start : ℕ → ℕ → ℤ) (t u : Content) → HaveOneBasis start t u → IsSameButForOrder t u }
-{
-}
+{}

@@ -1,7 +1,5 @@
 -- The pivot's row is passed over, and each other row is what `eliminate` says.
-use Rattle.std.proofs.Common.{◌≡◌, ◌<◌, List, [], length, ℤ, slice_index_or, set, sym, ◌∙◌, arith}
-use Rattle.std.specs.Int.{w64}
-use Rattle.std.proofs.lemmas.Int.{to_z-of_z}
+use Rattle.std.proofs.Common.{◌<◌, [], length, ◌∙◌, arith}
 use Rattle.std.proofs.lemmas.List.{get_or_default}
 use Rattle.int_tableau.proofs.Eliminating.{no_row_passed, next_row, pivot_passed}
 use Rattle.int_tableau.proofs.dense.eliminate_others.Goals as goal

@@ -1,5 +1,5 @@
 -- Where nothing is to be taken away and the denominator stays, each entry is its own quotient.
-use Rattle.std.proofs.Common.{◌≡◌, ◌≤◌, ℤ, length, refl, pos, arith}
+use Rattle.std.proofs.Common.{◌≡◌, ◌≤◌, length, refl, pos, arith}
 use Rattle.std.proofs.lemmas.Int.{ints, to_z-of_z}
 use Rattle.std.specs.Int.{w64}
 use Rattle.std.proofs.lemmas.List.Elements.{All-from_get_or, All-get_or}

@@ -1,8 +1,6 @@
 -- Zeros leave 0. Elsewhere the numbers come back from their bits, and `pivot_entry` says the rest.
-use Rattle.std.proofs.Common.{◌≡◌, ℤ, pos, ◌*ℤ◌, ◌-ℤ◌, ◌∙◌, refl, arith}
+use Rattle.std.proofs.Common.{◌≡◌, pos, ◌∙◌, refl, arith}
 use Rattle.std.proofs.lemmas.Int.{ints}
-use Rattle.corr_num.specs.Narrow.{Narrow, Wide}
-use Rattle.corr_num.specs.Quotient.{IsQuotient}
 use Rattle.corr_num.proofs.PrintedTerms.{word_passed}
 use Rattle.int_tableau.proofs.ExactEntries.{zero_of_zeros, some_quotient, word_of_narrow}
 use Rattle.int_tableau.proofs.rows.pivoted.Goals as goal

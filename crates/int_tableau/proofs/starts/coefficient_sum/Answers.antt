@@ -1,6 +1,6 @@
 -- One more number of 64 bits is added, and the sum stays far below 2^126.
-use Rattle.std.proofs.Common.{◌≡◌, ℤ, ◌+ℤ◌, FitsSigned, to_z, of_z, sym, rules, arith}
-use Rattle.std.specs.Int.{w64, w128}
+use Rattle.std.proofs.Common.{FitsSigned, sym, rules, arith}
+use Rattle.std.specs.Int.{w64}
 use Rattle.exact_algebra.proofs.Sums.{sum_to-zero}
 use Rattle.corr_num.proofs.PrintedTerms.{word_passed}
 use Rattle.int_tableau.proofs.PartialSums.{one_more}

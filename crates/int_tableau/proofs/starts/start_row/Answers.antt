@@ -1,7 +1,5 @@
 -- One more entry is pushed.
-use Rattle.std.proofs.Common.{◌≡◌, ℤ, pos, FitsSigned, rules, ◌∙◌, arith}
-use Rattle.std.specs.Int.{w64}
-use Rattle.std.proofs.lemmas.Int.{to_z-of_z}
+use Rattle.std.proofs.Common.{◌≡◌, pos, arith}
 use Rattle.corr_num.specs.Narrow.{Narrow}
 use Rattle.int_tableau.proofs.ExactEntries.{word_of}
 use Rattle.int_tableau.specs.Start.{start_entry}

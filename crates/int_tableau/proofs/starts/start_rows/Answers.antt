@@ -1,5 +1,5 @@
 -- One more row is pushed.
-use Rattle.std.proofs.Common.{List, [], ℤ}
+use Rattle.std.proofs.Common.{[]}
 use Rattle.int_tableau.specs.StartLists.{IsStartRow}
 use Rattle.int_tableau.proofs.Pushing.{push_length, push_step}
 use Rattle.int_tableau.proofs.starts.start_rows.Goals as goal

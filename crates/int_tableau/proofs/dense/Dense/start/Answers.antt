@@ -1,5 +1,5 @@
 -- The lists are those of the starting tableau, which is the tableau of its artificial basis.
-use Rattle.std.proofs.Common.{◌≡◌, refl, ◌+◌, length, arith}
+use Rattle.std.proofs.Common.{refl, arith}
 use Rattle.int_tableau.proofs.StartStored.{start_stored}
 use Rattle.int_tableau.proofs.dense.Dense.start.Goals as goal
 
