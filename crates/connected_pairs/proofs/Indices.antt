@@ -10,7 +10,7 @@ use Rattle.sequences.specs.Number.{SideView, IsSide, IsSideOf, IsAt, Ends, count
 use Rattle.sequences.proofs.Adding.{within}
 use Rattle.connected_pairs.specs.Connected.{PairsView, IsPairs, index_of}
 
-placed : (xs : List (Option ℕ)) (i k : ℕ) → slice_index_or xs i None ≡ Some k → slice_get xs i ≡ Some (Some k)
+pub placed : (xs : List (Option ℕ)) (i k : ℕ) → slice_index_or xs i None ≡ Some k → slice_get xs i ≡ Some (Some k)
 placed [] i k e = absurd (cc)
 placed (x ∷ xs) zero k e = ap Some e
 placed (x ∷ xs) (suc i) k e = placed xs i k e

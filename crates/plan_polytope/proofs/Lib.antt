@@ -1,2 +1,3 @@
+pub mod Columns
 pub mod FewSets
 pub mod Growing

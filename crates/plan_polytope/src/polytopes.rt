@@ -4,7 +4,8 @@ ghost use Rattle.sequences.specs.Number.{count_of, side_of};
 ghost use Rattle.lp_form.specs.Program.{right_of};
 ghost use Rattle.connected_pairs.specs.Connected.{IsPairs, IsPairsOf, other};
 ghost use Rattle.plan_polytope.specs.Bounds.{AreUnits, IsWithin};
-ghost use Rattle.plan_polytope.specs.CorrelationRow.{IsRowOf};
+ghost use Rattle.plan_polytope.specs.CorrelationRow.{IsCorrelationRow, IsRowOf, IsTotalRow, column_of};
+ghost use Rattle.plan_polytope.specs.Placing.{Puts};
 
 use crate::payoffs::add_payoffs;
 use crate::rows::{Row, correlation_rows};
@@ -91,17 +92,27 @@ fn place(
     requires beside_in { at.1 < count_of (side_of (other row.1) pairs.now.seqs) }
     requires small { unsigned_abs value ≤ 1 }
     requires before { AreUnits lp.old }
+    ensures put { OnOk result (Puts (column_of pairs.now row.1 at.0 at.1) row.0 value lp.old lp.new) }
     ensures units { OnOk result (AreUnits lp.new) }
     ensures rows_alone { OnOk result (lp.new ≡ record lp.old { rows = lp.new.rows }) }
     ensures count { OnOk result (length lp.new.rows ≡ length lp.old.rows) }
 {
-    let index = match row.1 {
-        Side::One => pairs.index_of(at.0, at.1),
-        Side::Two => pairs.index_of(at.1, at.0),
-    };
-    let Some(col) = index else {
+    let Some(col) = column(pairs, row.1, at) else {
         return Ok(());
     };
     lp.set(row.0, col, value)?;
     Ok(())
+}
+
+/// The column of a pair of sequences, that of this player first.
+fn column(pairs: &Pairs, side: Side, at: (u32, u32)) -> Option<u32>
+    requires own_in { at.0 < count_of (side_of side pairs.now.seqs) }
+    requires beside_in { at.1 < count_of (side_of (other side) pairs.now.seqs) }
+    ensures value { result ≡ column_of pairs.now side at.0 at.1 }
+    ensures rules { IsPairs pairs.now }
+{
+    match side {
+        Side::One => pairs.index_of(at.0, at.1),
+        Side::Two => pairs.index_of(at.1, at.0),
+    }
 }
