@@ -1,5 +1,6 @@
 -- Columns are those of pairs: each is in range, and different sequences beside one have different columns.
 use Rattle.std.proofs.Common.{◌≡◌, ◌≢◌, ◌⊎◌, ℕ, ◌<◌, ℤ, List, Option, Some, None, length, slice_get, refl, sym, ap, ◌∙◌, inl, inr}
+use Rattle.std.proofs.lemmas.Bool.{cases_eq}
 use Rattle.std.proofs.lemmas.Nat.{same_from_place}
 use Rattle.corr_game.specs.declared.sides.Side.{Side}
 use Rattle.corr_game.specs.declared.sides.Side.TheVariants.{One, Two}
@@ -47,3 +48,8 @@ puts_at {found} {row} {col} {value} a b e here others = record {
     | inr apart ↦ others r k (inr (λ same. apart (e ∙ ap Some (sym same))))
   ]);
 }
+
+-- whether a number that may be missing is this one can be told
+pub some_or_not : (found : Option ℕ) (k : ℕ) → (found ≡ Some k) ⊎ (found ≢ Some k)
+some_or_not None k = inr (λ e. absurd (cc e))
+some_or_not (Some col) k = elim (cases_eq col k) [ inl same ↦ inl (ap Some same) | inr apart ↦ inr (λ e. apart (cc e)) ]

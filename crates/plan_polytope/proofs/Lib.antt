@@ -1,3 +1,5 @@
 pub mod Columns
 pub mod FewSets
+pub mod Filling
 pub mod Growing
+pub mod Ordering

@@ -1,5 +1,5 @@
 -- The correlation rows of two players' sequences (von Stengel and Forges 2008), by the set and the sequence they are for.
-use Rattle.std.specs.Prelude.{◌≡◌, ◌≢◌, ◌<◌, ℕ, pos, negsuc, Option, Some, length}
+use Rattle.std.specs.Prelude.{◌≡◌, ◌≢◌, ◌<◌, ℕ, pos, negsuc, ◌+◌, List, Option, Some, length, slice_get}
 use Rattle.corr_game.specs.declared.sides.Side.{Side}
 use Rattle.corr_game.specs.declared.sides.Side.TheVariants.{One, Two}
 use Rattle.corr_game.specs.Game.{GameView, sets_of}
@@ -35,3 +35,7 @@ pub record IsCorrelationRow (p : PairsView) (row : Row) (lp : LpView) (r : ℕ) 
 pub record IsTotalRow (p : PairsView) (lp : LpView) (r : ℕ) : Type 0 where
   pub empty : (k : ℕ) → index_of p 0 0 ≡ Some k → coefficient lp r k ≡ pos 1
   pub elsewhere : (k : ℕ) → index_of p 0 0 ≢ Some k → coefficient lp r k ≡ pos 0
+
+-- these rows stand in this order behind the first row of a program
+abbrev pub AreFilled : PairsView → List Row → LpView → Type 0
+AreFilled p rows lp = (r : ℕ) (row : Row) → slice_get rows r ≡ Some row → IsCorrelationRow p row lp (r + 1)

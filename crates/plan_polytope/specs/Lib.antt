@@ -1,3 +1,5 @@
 pub mod Bounds
 pub mod CorrelationRow
 pub mod Placing
+pub mod RowOrder
+pub mod Rows

@@ -1,11 +1,12 @@
-ghost use Rattle.std.specs.Prelude.{◌≡◌, ◌<◌, ◌≤◌, ◌+◌, ◌*◌, ◌^◌, ℕ, pos, length, slice_set, replicate, unsigned_abs, All, IfOk, OnOk};
+ghost use Rattle.std.specs.Prelude.{◌≡◌, ◌≢◌, ◌<◌, ◌≤◌, ◌+◌, ◌*◌, ◌^◌, ℕ, pos, length, slice_set, replicate, unsigned_abs, All, IfOk, OnOk};
 ghost use Rattle.corr_game.specs.Game.{sets_of};
 ghost use Rattle.sequences.specs.Number.{count_of, side_of};
-ghost use Rattle.lp_form.specs.Program.{right_of};
+ghost use Rattle.lp_form.specs.Program.{coefficient, right_of};
 ghost use Rattle.connected_pairs.specs.Connected.{IsPairs, IsPairsOf, other};
 ghost use Rattle.plan_polytope.specs.Bounds.{AreUnits, IsWithin};
-ghost use Rattle.plan_polytope.specs.CorrelationRow.{IsCorrelationRow, IsRowOf, IsTotalRow, column_of};
+ghost use Rattle.plan_polytope.specs.CorrelationRow.{AreFilled, IsCorrelationRow, IsRowOf, IsTotalRow, column_of};
 ghost use Rattle.plan_polytope.specs.Placing.{Puts};
+ghost use Rattle.plan_polytope.specs.Rows.{AreCorrelationRows};
 
 use crate::payoffs::add_payoffs;
 use crate::rows::{Row, correlation_rows};
@@ -21,6 +22,7 @@ pub fn polytope(alloc: Global, game: &Game, pairs: &Pairs) -> Result<Lp, NoMemor
     ensures columns { IfOk result (λ lp. lp.cols ≡ length pairs.now.pairs) }
     ensures few_rows { IfOk result (λ lp. length lp.rows + 4095 ≤ 2 ^ 24) }
     ensures a_row { IfOk result (λ lp. 0 < length lp.rows) }
+    ensures correlation { IfOk result (λ lp. AreCorrelationRows game.now pairs.now lp) }
     ensures total { IfOk result (λ lp. right_of lp 0 ≡ pos 1) }
     ensures other_rights { IfOk result (λ lp. (r : ℕ) → right_of lp (r + 1) ≡ pos 0) }
     ensures amounts { IfOk result (λ lp. IsWithin (2 ^ 40) lp) }
@@ -45,6 +47,9 @@ fn fill_rows(game: &Game, pairs: &Pairs, rows: &[Row], lp: &mut Lp) -> Result<()
     requires few { length rows.now ≤ 4095 * 4096 }
     requires each { All (IsRowOf game.now pairs.now) rows.now }
     requires before { AreUnits lp.old }
+    requires all_0 { (r k : ℕ) → coefficient lp.old (r + 1) k ≡ pos 0 }
+    ensures filled { OnOk result (AreFilled pairs.now rows.now lp.new) }
+    ensures first_row { OnOk result ((k : ℕ) → coefficient lp.new 0 k ≡ coefficient lp.old 0 k) }
     ensures units { OnOk result (AreUnits lp.new) }
     ensures rows_alone { OnOk result (lp.new ≡ record lp.old { rows = lp.new.rows }) }
     ensures count { OnOk result (length lp.new.rows ≡ length lp.old.rows) }
@@ -63,6 +68,9 @@ fn fill_row(game: &Game, pairs: &Pairs, row: &Row, at: u32, lp: &mut Lp) -> Resu
     requires known { IsRowOf game.now pairs.now row.now }
     requires in_rows { at < length lp.old.rows }
     requires before { AreUnits lp.old }
+    requires all_0 { (k : ℕ) → coefficient lp.old at k ≡ pos 0 }
+    ensures row { OnOk result (IsCorrelationRow pairs.now row.now lp.new at) }
+    ensures other_rows { OnOk result ((r k : ℕ) → r ≢ at → coefficient lp.new r k ≡ coefficient lp.old r k) }
     ensures units { OnOk result (AreUnits lp.new) }
     ensures rows_alone { OnOk result (lp.new ≡ record lp.old { rows = lp.new.rows }) }
     ensures count { OnOk result (length lp.new.rows ≡ length lp.old.rows) }

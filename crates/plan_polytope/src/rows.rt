@@ -3,6 +3,7 @@ ghost use Rattle.corr_game.specs.Game.{IsGame, sets_of};
 ghost use Rattle.sequences.specs.Number.{count_of, last_of, side_of};
 ghost use Rattle.connected_pairs.specs.Connected.{IsPairsOf, IsTouched, other};
 ghost use Rattle.plan_polytope.specs.CorrelationRow.{IsRowOf};
+ghost use Rattle.plan_polytope.specs.RowOrder.{AddsWanted, AreAllRows, AreRowsBelow};
 
 use connected_pairs::Pairs;
 use corr_game::{Game, SetId, Side};
@@ -21,6 +22,7 @@ pub fn correlation_rows(alloc: Global, game: &Game, pairs: &Pairs) -> Result<Vec
     requires { IsPairsOf game.now pairs.now }
     ensures few { IfOk result (λ rows. length rows.items ≤ 4095 * 4096) }
     ensures each { IfOk result (λ rows. All (IsRowOf game.now pairs.now) rows.items) }
+    ensures listed { IfOk result (λ rows. AreAllRows game.now pairs.now rows.items) }
 {
     let mut rows = Vec::new(alloc);
     add_rows(game, pairs, Side::One, &mut rows)?;
@@ -30,9 +32,9 @@ pub fn correlation_rows(alloc: Global, game: &Game, pairs: &Pairs) -> Result<Vec
 
 fn add_rows(game: &Game, pairs: &Pairs, side: Side, rows: &mut Vec<Row>) -> Result<(), NoMemory>
     requires whose { IsPairsOf game.now pairs.now }
-    requires before { All (IsRowOf game.now pairs.now) rows.old.items }
+    requires listed { AreRowsBelow game.now pairs.now side 0 0 rows.old.items }
+    ensures listed { OnOk result (AreRowsBelow game.now pairs.now side (length (sets_of side game.now)) 0 rows.new.items) }
     ensures few { OnOk result (length rows.new.items ≤ length rows.old.items + length (sets_of side game.now) * 4096) }
-    ensures each { OnOk result (All (IsRowOf game.now pairs.now) rows.new.items) }
     ensures rules { IsGame game.now }
 {
     for set in 0..game.sets(side) {
@@ -49,18 +51,28 @@ fn add_rows_of_set(
 ) -> Result<(), NoMemory>
     requires whose { IsPairsOf game.now pairs.now }
     requires known { at.1.0 < length (sets_of at.0 game.now) }
-    requires before { All (IsRowOf game.now pairs.now) rows.old.items }
+    requires listed { AreRowsBelow game.now pairs.now at.0 at.1.0 0 rows.old.items }
+    ensures listed { OnOk result (AreRowsBelow game.now pairs.now at.0 (at.1.0 + 1) 0 rows.new.items) }
     ensures few { OnOk result (length rows.new.items ≤ length rows.old.items + 4096) }
-    ensures each { OnOk result (All (IsRowOf game.now pairs.now) rows.new.items) }
 {
     for beside in 0..pairs.seqs().count(other_side(at.0)) {
-        if is_beside(pairs, at, beside) {
-            rows.push(Row {
-                side: at.0,
-                set: at.1,
-                beside,
-            })?;
-        }
+        let row = Row {
+            side: at.0,
+            set: at.1,
+            beside,
+        };
+        add_row(pairs, row, rows)?;
+    }
+    Ok(())
+}
+
+fn add_row(pairs: &Pairs, row: Row, rows: &mut Vec<Row>) -> Result<(), NoMemory>
+    requires known { row.set.0 < length (side_of row.side pairs.now.seqs).places }
+    requires in_range { row.beside < count_of (side_of (other row.side) pairs.now.seqs) }
+    ensures { OnOk result (AddsWanted pairs.now row rows.old.items rows.new.items) }
+{
+    if is_beside(pairs, (row.side, row.set), row.beside) {
+        rows.push(row)?;
     }
     Ok(())
 }

@@ -1,7 +1,7 @@
--- Each sequence gone over has added one row at most.
-use Rattle.std.proofs.Common.{◌+◌, ◌≤◌, All, length}
-use Rattle.plan_polytope.specs.CorrelationRow.{IsRowOf}
+-- Each sequence gone over has added one row at most, and the rows up to it are listed.
+use Rattle.std.proofs.Common.{◌+◌, ◌≤◌, length}
+use Rattle.plan_polytope.specs.RowOrder.{AreRowsBelow}
 use Rattle.plan_polytope.proofs.rows.add_rows_of_set.Given as goal
 
 abbrev pub invariant-loop-beside : goal.invariant-loop-beside
-invariant-loop-beside l = (length l.rows.items ≤ length l.initial.rows.items + l.beside) × All (IsRowOf l.game l.pairs) l.rows.items
+invariant-loop-beside l = (length l.rows.items ≤ length l.initial.rows.items + l.beside) × AreRowsBelow l.game l.pairs l.at.0 l.at.1.0 l.beside l.rows.items
