@@ -1,4 +1,5 @@
 pub mod Columns
+pub mod Counting
 pub mod FewSets
 pub mod Filling
 pub mod Growing

@@ -3,6 +3,8 @@ ghost use Rattle.corr_game.specs.Game.{IsGame, sets_of};
 ghost use Rattle.sequences.specs.Number.{count_of, last_of, side_of};
 ghost use Rattle.connected_pairs.specs.Connected.{IsPairsOf, IsTouched, other};
 ghost use Rattle.plan_polytope.specs.CorrelationRow.{IsRowOf};
+ghost use Rattle.incentive_rows.specs.Size.{HasCorrelationRows, HasRowsOfSet};
+ghost use Rattle.plan_polytope.specs.RowCount.{HasBothCounts, IsLonger};
 ghost use Rattle.plan_polytope.specs.RowOrder.{AddsWanted, AreAllRows, AreRowsBelow};
 
 use connected_pairs::Pairs;
@@ -23,6 +25,7 @@ pub fn correlation_rows(alloc: Global, game: &Game, pairs: &Pairs) -> Result<Vec
     ensures few { IfOk result (λ rows. length rows.items ≤ 4095 * 4096) }
     ensures each { IfOk result (λ rows. All (IsRowOf game.now pairs.now) rows.items) }
     ensures listed { IfOk result (λ rows. AreAllRows game.now pairs.now rows.items) }
+    ensures count { IfOk result (λ rows. HasBothCounts game.now pairs.now (length rows.items)) }
 {
     let mut rows = Vec::new(alloc);
     add_rows(game, pairs, Side::One, &mut rows)?;
@@ -34,6 +37,7 @@ fn add_rows(game: &Game, pairs: &Pairs, side: Side, rows: &mut Vec<Row>) -> Resu
     requires whose { IsPairsOf game.now pairs.now }
     requires listed { AreRowsBelow game.now pairs.now side 0 0 rows.old.items }
     ensures listed { OnOk result (AreRowsBelow game.now pairs.now side (length (sets_of side game.now)) 0 rows.new.items) }
+    ensures count { OnOk result (IsLonger (HasCorrelationRows game.now pairs.now side) (length rows.old.items) (length rows.new.items)) }
     ensures few { OnOk result (length rows.new.items ≤ length rows.old.items + length (sets_of side game.now) * 4096) }
     ensures rules { IsGame game.now }
 {
@@ -53,6 +57,7 @@ fn add_rows_of_set(
     requires known { at.1.0 < length (sets_of at.0 game.now) }
     requires listed { AreRowsBelow game.now pairs.now at.0 at.1.0 0 rows.old.items }
     ensures listed { OnOk result (AreRowsBelow game.now pairs.now at.0 (at.1.0 + 1) 0 rows.new.items) }
+    ensures count { OnOk result (IsLonger (HasRowsOfSet pairs.now at.0 at.1.0) (length rows.old.items) (length rows.new.items)) }
     ensures few { OnOk result (length rows.new.items ≤ length rows.old.items + 4096) }
 {
     for beside in 0..pairs.seqs().count(other_side(at.0)) {

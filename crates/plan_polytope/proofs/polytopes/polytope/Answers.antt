@@ -26,6 +26,7 @@ returns-clause-correlation c =
     record {
       rows = c.in_ok-rows.rows.items;
       listed = c.in_ok-rows.ensures.listed;
+      both_players = c.in_ok-rows.ensures.count;
       count = omega (
         arith,
         ap (λ (rows : List (List Entry)). length rows) c.in_ok-add_payoffs.ensures.rows.rows,
