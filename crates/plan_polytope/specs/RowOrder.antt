@@ -17,6 +17,7 @@ abbrev pub IsBefore : Row → Side → ℕ → ℕ → Type 0
 IsBefore row One set beside = (row.side ≡ One) × IsLower row set beside
 IsBefore row Two set beside = (row.side ≡ One) ⊎ ((row.side ≡ Two) × IsLower row set beside)
 
+-- one row comes before another
 abbrev pub ComesBefore : Row → Row → Type 0
 ComesBefore a b = IsBefore a b.side b.set.0 b.beside
 

@@ -9,6 +9,7 @@ use Rattle.plan_polytope.specs.CorrelationRow.{AreFilled, IsTotalRow}
 use Rattle.plan_polytope.specs.RowCount.{HasBothCounts}
 use Rattle.plan_polytope.specs.RowOrder.{AreAllRows}
 
+-- the rows of a program are the total row and then each correlation row once, in their order
 pub record AreCorrelationRows (g : GameView) (p : PairsView) (lp : LpView) : Type 0 where
   pub rows : List Row
   pub listed : AreAllRows g p rows
