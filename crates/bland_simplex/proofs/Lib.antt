@@ -1,3 +1,4 @@
+pub mod Ratios
 pub mod Read
 pub mod RightSides
 pub mod Signs

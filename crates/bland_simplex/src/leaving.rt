@@ -1,5 +1,6 @@
 // The row whose basic column leaves.
-ghost use Rattle.std.specs.Prelude.{◌≡◌, ◌+◌, ◌<◌, ◌<ℤ◌, pos, IfSome};
+ghost use Rattle.std.specs.Prelude.{◌≡◌, ℕ, ◌+◌, ◌<◌, ◌*ℤ◌, ◌<ℤ◌, ◌≤ℤ◌, true, false, pos, MatchOption};
+ghost use Rattle.exact_linear.specs.Simplex.{IsLeastRatio};
 ghost use Rattle.bland_simplex.specs.Open.{IsOpen};
 
 use crate::shapes::Shape;
@@ -23,6 +24,8 @@ fn leaves_before<T: Tableau>(table: &T, shape: Shape, col: u32, row: u32, other:
     requires column { col < shape.cols + shape.rows }
     requires row { row < shape.rows }
     requires other { other < shape.rows }
+    ensures smaller { result ≡ true → ((T.content table.now).entry row (shape.cols + shape.rows) *ℤ (T.content table.now).entry other col) ≤ℤ ((T.content table.now).entry other (shape.cols + shape.rows) *ℤ (T.content table.now).entry row col) }
+    ensures larger { result ≡ false → ((T.content table.now).entry other (shape.cols + shape.rows) *ℤ (T.content table.now).entry row col) ≤ℤ ((T.content table.now).entry row (shape.cols + shape.rows) *ℤ (T.content table.now).entry other col) }
 {
     let right = table.cols() - 1;
     let ratios = cmp_products(
@@ -40,7 +43,7 @@ fn leaves_before<T: Tableau>(table: &T, shape: Shape, col: u32, row: u32, other:
 pub(crate) fn leaving<T: Tableau>(table: &T, shape: Shape, col: u32) -> Option<u32>
     requires open { IsOpen shape.rows shape.cols (T.content table.now) }
     requires column { col < shape.cols + shape.rows }
-    ensures { IfSome result (λ row. (row < shape.rows) × (pos 0 <ℤ (T.content table.now).entry row col)) }
+    ensures { MatchOption result ((row : ℕ) → row < shape.rows → (T.content table.now).entry row col ≤ℤ pos 0) (λ row. IsLeastRatio shape.rows (shape.cols + shape.rows) (T.content table.now).entry row col) }
 {
     let mut first = None;
     for row in 0..shape.rows {

@@ -1,6 +1,7 @@
-use Rattle.std.proofs.Common.{ℕ, ◌<◌, pos, ◌<ℤ◌, IfSome}
+use Rattle.std.proofs.Common.{◌+◌}
+use Rattle.bland_simplex.proofs.Ratios.{IsLeastSoFar}
 use Rattle.bland_simplex.proofs.leaving.leaving.Given as goal
 
--- the row so far may leave
+-- the row of least ratio so far
 abbrev pub invariant-loop-row : goal.invariant-loop-row
-invariant-loop-row g l = IfSome l.first (λ (row : ℕ). (row < l.fn.shape.rows) × (pos 0 <ℤ (g.T.Tableau.content l.fn.table).entry row l.fn.col))
+invariant-loop-row g l = IsLeastSoFar (l.fn.shape.cols + l.fn.shape.rows) (g.T.Tableau.content l.fn.table).entry l.fn.col l.row l.first
