@@ -1,0 +1,35 @@
+-- The product of a column with narrow multipliers is at most as many steps as there are rows.
+use Rattle.std.proofs.Common.{◌≡◌, ℕ, ◌+◌, ◌*◌, ◌^◌, ◌<◌, ◌≤◌, List, All, length, get_or, ℤ, pos, ◌+ℤ◌, ◌*ℤ◌, unsigned_abs, ap, arith}
+use Rattle.std.specs.Prelude.{replicate}
+use Rattle.std.proofs.lemmas.Int.{ints}
+use Rattle.std.proofs.lemmas.Nat.{mul-le}
+use Rattle.exact_algebra.proofs.SumOrder.{sum_to_bounded}
+use Rattle.exact_algebra.proofs.Sums.{sum_to-zero, sum_to-add_one}
+use Rattle.corr_num.specs.Narrow.{Narrow}
+use Rattle.lp_form.specs.Program.{LpView, coefficient}
+use Rattle.cert_check.specs.Bounds.{AreSteps}
+use Rattle.cert_check.specs.Products.{product_to}
+use Rattle.cert_check.specs.Reach.{reach}
+use Rattle.cert_check.proofs.Sizes.{product_size, reach_at, reach_zeros}
+
+pub product_bound : (n first step k : ℕ) (ys : List ℤ) (lp : LpView) → All Narrow ys → first + n ≤ length ys → AreSteps step lp → unsigned_abs (product_to n ys first lp k) ≤ n * step
+product_bound n first step k ys lp narrow long steps =
+    sum_to_bounded n step _ (λ r h. omega (arith, product_size (get_or ys (first + r) (pos 0)) (coefficient lp r k) (narrow (first + r) (pos 0) (omega arith)), steps r k))
+
+pub product_none : (first k : ℕ) (ys : List ℤ) (lp : LpView) → product_to 0 ys first lp k ≡ pos 0
+product_none first k ys lp = sum_to-zero _
+
+pub product_more : (n first k : ℕ) (ys : List ℤ) (lp : LpView) → product_to (n + 1) ys first lp k ≡ product_to n ys first lp k +ℤ get_or ys (first + n) (pos 0) *ℤ coefficient lp n k
+product_more n first k ys lp = sum_to-add_one n _
+
+pub sum_bound : (s o p : ℤ) (m n : ℕ) → s ≡ o +ℤ p → unsigned_abs o ≤ m → unsigned_abs p ≤ n → unsigned_abs s ≤ m + n
+sum_bound s o p m n e a b = omega (arith, ints, e, a, b)
+
+pub one_more : (s t o p q r : ℤ) → t ≡ s +ℤ q → s ≡ o +ℤ p → r ≡ p +ℤ q → t ≡ o +ℤ r
+one_more s t o p q r a b c = omega (arith, ints, a, b, c)
+
+pub steps_left : (limit row rows step : ℕ) → row < rows → limit + rows * step ≤ 2 ^ 124 → limit + row * step + step ≤ 2 ^ 124
+steps_left limit row rows step h l = omega (arith, mul-le (row + 1) step rows step (omega arith) (omega arith), l)
+
+pub zero_at : (xs : List ℤ) (n k : ℕ) → xs ≡ replicate n (pos 0) → unsigned_abs (get_or xs k (pos 0)) ≤ 0
+zero_at xs n k e = let none : reach xs ≡ reach (replicate n (pos 0)) = ap (λ (ys : List ℤ). reach ys) e in omega (arith, reach_at xs k, none, reach_zeros n)

@@ -1,0 +1,4 @@
+mod ColumnSums
+mod RestOfRow
+mod Sizes
+pub mod Elements

@@ -1,0 +1,6 @@
+-- Each block that was passed keeps its rules; nothing changes.
+use Rattle.std.proofs.Common.{◌≡◌}
+use Rattle.cert_check.proofs.blocks.check_blocks.Given as goal
+
+abbrev pub invariant-loop-k : goal.invariant-loop-k
+invariant-loop-k l = l.blocks ≡ l.initial.blocks

@@ -1,0 +1,197 @@
+ghost use Rattle.std.specs.Prelude.{◌≡◌, ◌↔◌, IsTrue, ◌<◌, ◌≤◌, All, IfOk, Ok, length};
+ghost use Rattle.cert_check.specs.declared.verdicts.Verdict.TheVariants.{NoScale};
+ghost use Rattle.cert_check.specs.Scales.{HasScales};
+ghost use Rattle.corr_game.specs.Game.{IsGame};
+ghost use Rattle.corr_num.specs.Narrow.{Narrow};
+ghost use Rattle.connected_pairs.specs.Connected.{IsPairsOf};
+ghost use Rattle.report_form.specs.Ranges.{InOrderFrom, IsBlock, IsCorner, IsReport, IsSide};
+ghost use Rattle.cert_check.specs.Fits.{AllFit, Fits};
+
+use crate::corners::check_corner;
+use crate::faults::{BlockEnd, Fault, at_item};
+use crate::programs::program_of;
+use crate::sides::{check_multipliers, check_side};
+use crate::verdicts::{Cause, Item, Verdict};
+use connected_pairs::Pairs;
+use corr_game::{Game, Notion, Side};
+use lp_form::NumList;
+use plane_hull::{Point, SideList, belt};
+use report_form::{Block, BlockList, Corners, NamedBlock, Report};
+use std::alloc::{AllocError as NoMemory, Global};
+
+/// What a report on a game without a triangle is worth: the first rule that it breaks, in the order of its parts.
+pub fn check(
+    alloc: Global,
+    game: &Game,
+    pairs: &Pairs,
+    report: &Report,
+) -> Result<Verdict, NoMemory>
+    requires whose { IsPairsOf game.now pairs.now }
+    requires ranges { IsReport report.now }
+    requires sizes { AllFit game.now pairs.now report.now.blocks }
+    ensures no_scale { IfOk result (λ verdict. verdict ≡ NoScale → HasScales game.now report.now → ⊥) }
+    ensures scales { IfOk result (λ verdict. (HasScales game.now report.now → ⊥) → verdict ≡ NoScale) }
+{
+    if !has_scales(game, report) {
+        return Ok(Verdict::NoScale);
+    }
+    let verdict = check_blocks(alloc, game, pairs, &report.blocks)?;
+    Ok(verdict)
+}
+
+fn has_scales(game: &Game, report: &Report) -> bool
+    ensures rules { IsGame game.now }
+    ensures scales { IsTrue result ↔ HasScales game.now report.now }
+{
+    report.scale_one == game.scale(Side::One) && report.scale_two == game.scale(Side::Two)
+}
+
+fn check_blocks(
+    alloc: Global,
+    game: &Game,
+    pairs: &Pairs,
+    blocks: &BlockList,
+) -> Result<Verdict, NoMemory>
+    requires rules { IsGame game.now }
+    requires whose { IsPairsOf game.now pairs.now }
+    requires ranges { InOrderFrom 0 blocks.now }
+    requires sizes { AllFit game.now pairs.now blocks.now }
+    ensures { IfOk result (λ verdict. verdict ≡ NoScale → ⊥) }
+{
+    for k in 0..blocks.len() {
+        let named = blocks.at(k);
+        match check_block(alloc, game, pairs, named) {
+            Ok(()) => {}
+            Err(BlockEnd::NoMemory) => return Err(NoMemory),
+            Err(BlockEnd::Fault(Fault { item, cause })) => {
+                return Ok(Verdict::No {
+                    notion: named.notion,
+                    item,
+                    cause,
+                });
+            }
+        }
+    }
+    Ok(if some_too_wide(blocks) {
+        Verdict::Partial
+    } else {
+        Verdict::Yes
+    })
+}
+
+fn some_too_wide(blocks: &BlockList) -> bool {
+    for k in 0..blocks.len() {
+        if let Block::TooWide { .. } = &blocks.at(k).block {
+            return true;
+        }
+    }
+    false
+}
+
+fn check_block(
+    alloc: Global,
+    game: &Game,
+    pairs: &Pairs,
+    named: &NamedBlock,
+) -> Result<(), BlockEnd>
+    requires rules { IsGame game.now }
+    requires whose { IsPairsOf game.now pairs.now }
+    requires ranges { IsBlock named.now.block }
+    requires size { Fits game.now pairs.now named.now.notion }
+{
+    match &named.block {
+        Block::Found { corners, sides } => {
+            check_corners(alloc, game, pairs, named.notion, corners)?;
+            check_sides(alloc, game, pairs, named.notion, (corners, sides))
+        }
+        Block::Empty { multipliers } => {
+            check_empty(alloc, game, pairs, named.notion, multipliers)
+        }
+        Block::TooWide { .. } => Ok(()),
+    }
+}
+
+fn check_corners(
+    alloc: Global,
+    game: &Game,
+    pairs: &Pairs,
+    notion: Notion,
+    corners: &Corners,
+) -> Result<(), BlockEnd>
+    requires rules { IsGame game.now }
+    requires whose { IsPairsOf game.now pairs.now }
+    requires ranges { All IsCorner corners.now }
+{
+    for k in 0..corners.len() {
+        if let Err(end) = check_corner(alloc, game, pairs, notion, corners.at(k)) {
+            return Err(at_item(end, Item::Corner(k)));
+        }
+    }
+    Ok(())
+}
+
+/// The belt, then each side.
+fn check_sides(
+    alloc: Global,
+    game: &Game,
+    pairs: &Pairs,
+    notion: Notion,
+    found: (&Corners, &SideList),
+) -> Result<(), BlockEnd>
+    requires whose { IsPairsOf game.now pairs.now }
+    requires size { Fits game.now pairs.now notion }
+    requires a_corner { 1 ≤ length found.0.now }
+    requires ranges { All (IsSide (length found.0.now)) found.1.now }
+{
+    let (corners, sides) = found;
+    let points = points_of(alloc, corners)?;
+    check_belt(points.as_slice(), sides)?;
+    let program = program_of(alloc, game, pairs, notion)?;
+    for k in 0..sides.len() {
+        if let Err(end) = check_side(alloc, game, &program, points.as_slice(), sides.at(k)) {
+            return Err(at_item(end, Item::Side(k)));
+        }
+    }
+    Ok(())
+}
+
+fn points_of(alloc: Global, corners: &Corners) -> Result<Vec<Point>, NoMemory>
+    ensures count { IfOk result (λ points. length points.items ≡ length corners.now) }
+{
+    let mut points = Vec::new(alloc);
+    for k in 0..corners.len() {
+        points.push(corners.at(k).point)?;
+    }
+    Ok(points)
+}
+
+fn check_belt(points: &[Point], sides: &SideList) -> Result<(), BlockEnd>
+    requires a_corner { 1 ≤ length points.now }
+    requires ranges { All (IsSide (length points.now)) sides.now }
+{
+    match belt(points, sides) {
+        Ok(()) => Ok(()),
+        Err(broken) => Err(BlockEnd::Fault(Fault {
+            item: Item::Belt(broken.side),
+            cause: Cause::Belt,
+        })),
+    }
+}
+
+fn check_empty(
+    alloc: Global,
+    game: &Game,
+    pairs: &Pairs,
+    notion: Notion,
+    multipliers: &NumList,
+) -> Result<(), BlockEnd>
+    requires whose { IsPairsOf game.now pairs.now }
+    requires size { Fits game.now pairs.now notion }
+    requires narrow { All Narrow multipliers.now }
+{
+    let program = program_of(alloc, game, pairs, notion)?;
+    match check_multipliers(alloc, &program, multipliers) {
+        Ok(()) => Ok(()),
+        Err(end) => Err(at_item(end, Item::Multipliers)),
+    }
+}

@@ -1,0 +1,22 @@
+//! A report held against its game, apart from the solver that may have written it.
+//!
+//! `check` goes over the scales and the blocks of a report in order: a corner's pairs of plans, whether a player gains by
+//! leaving the mediator, the belt of sides, each side's multipliers against the program of the notion. It stands on
+//! `incentive_rows` and `plan_polytope` for that program and on `plane_hull` for the belt. The layer above uses `check`
+//! and its `Verdict`.
+#![tactic(auto)]
+
+mod blocks;
+mod corners;
+mod deviations;
+mod faults;
+mod gains;
+mod multipliers;
+mod planned;
+mod programs;
+mod sides;
+mod sums;
+mod verdicts;
+
+pub use blocks::check;
+pub use verdicts::{Cause, Item, Verdict};
