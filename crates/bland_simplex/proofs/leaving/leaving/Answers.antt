@@ -10,13 +10,13 @@ loop-row-preserved g c =
     let side = c.args.shape.cols + c.args.shape.rows in
     let matrix = (g.T.Tableau.content c.args.table.now).entry in
     elim c.if-entry-gt0.branch [
-        then-entry-gt0+then-is_first w ↦ elim w.match-first.branch [
-            in-None v ↦ option_first side matrix c.args.col c.loop-row.row c.loop-row.first _ c.entry.result c.loop-row.invariant v.in-None.is c.entry.ensures.value (omega (arith, ints, w.if-entry-gt0.true)) w.first-is
-          | in-Some v ↦ option_taken side matrix c.args.col c.loop-row.row c.loop-row.first _ v.in-Some.other c.entry.result c.loop-row.invariant v.in-Some.is c.entry.ensures.value (omega (arith, ints, w.if-entry-gt0.true)) (v.leaves_before-is_first.ensures.smaller (sym v.is_first-is ∙ w.if-is_first.true)) w.first-is
-        ]
+      | then-entry-gt0+then-is_first w ↦ elim w.match-first.branch [
+        | in-None v ↦ option_first side matrix c.args.col c.loop-row.row c.loop-row.first _ c.entry.result c.loop-row.invariant v.in-None.is c.entry.ensures.value (omega (arith, ints, w.if-entry-gt0.true)) w.first-is
+        | in-Some v ↦ option_taken side matrix c.args.col c.loop-row.row c.loop-row.first _ v.in-Some.other c.entry.result c.loop-row.invariant v.in-Some.is c.entry.ensures.value (omega (arith, ints, w.if-entry-gt0.true)) (v.leaves_before-is_first.ensures.smaller (sym v.is_first-is ∙ w.if-is_first.true)) w.first-is
+      ]
       | then-entry-gt0+else-is_first w ↦ elim w.match-first.branch [
-            in-None v ↦ absurd (cc)
-          | in-Some v ↦ option_kept side matrix c.args.col c.loop-row.row c.loop-row.first _ v.in-Some.other c.loop-row.invariant v.in-Some.is (v.leaves_before-is_first.ensures.larger (sym v.is_first-is ∙ w.if-is_first.false)) (w.first-is ∙ v.first-is ∙ sym v.in-Some.is)
-        ]
+        | in-None v ↦ absurd (cc)
+        | in-Some v ↦ option_kept side matrix c.args.col c.loop-row.row c.loop-row.first _ v.in-Some.other c.loop-row.invariant v.in-Some.is (v.leaves_before-is_first.ensures.larger (sym v.is_first-is ∙ w.if-is_first.false)) (w.first-is ∙ v.first-is ∙ sym v.in-Some.is)
+      ]
       | else-entry-gt0 w ↦ option_passed side matrix c.args.col c.loop-row.row c.loop-row.first _ c.entry.result c.loop-row.invariant c.entry.ensures.value (omega (arith, ints, w.if-entry-gt0.false)) w.first-is
     ]
