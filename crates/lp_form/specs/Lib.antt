@@ -1,2 +1,3 @@
 pub mod Row
 pub mod Program
+pub mod Solutions

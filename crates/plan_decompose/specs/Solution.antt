@@ -1,5 +1,6 @@
 -- Values that meet the correlation rows (von Stengel and Forges 2008), in a game without a triangle (Farina and Sandholm
 -- 2020), and what two plans that are picked by them play.
+pub use Rattle.connected_pairs.specs.CorrelationRows.{value_at, value_of, IsClosedBack, MeetsRows}
 use Rattle.std.specs.Prelude.{ℕ, ◌≡◌, ◌+◌, ◌<◌, ◌≤ℤ◌, ℤ, pos, negsuc, zero, suc, Bool, true, List, [], ◌∷◌, Option, Some, None, slice_get, slice_index_or}
 use Rattle.exact_algebra.specs.Sums.{sum_to}
 use Rattle.corr_game.specs.declared.nodes.SetId.{SetId}
@@ -10,28 +11,6 @@ use Rattle.sequences.specs.Number.{SideView, Plays, count_of, last_of, side_of}
 use Rattle.connected_pairs.specs.Connected.{PairsView, IsTouched, index_of, other, touches}
 use Rattle.triangle_test.specs.Triangle.{IsTriangle}
 use Rattle.triangle_test.specs.declared.triangles.Quad.{Quad}
-
--- the value at an index, and 0 where there is none
-abbrev pub value_at : List ℤ → Option ℕ → ℤ
-value_at values None = pos 0
-value_at values (Some k) = slice_index_or values k (pos 0)
-
--- the value at a sequence of this player and one of the other
-abbrev pub value_of : PairsView → List ℤ → Side → ℕ → ℕ → ℤ
-value_of p values One own beside = value_at values (index_of p own beside)
-value_of p values Two own beside = value_at values (index_of p beside own)
-
--- where two sets are connected, the last set before one is connected to the other
-abbrev pub IsClosedBack : PairsView → Side → Type 0
-IsClosedBack p side = (set k : ℕ) (place : Place) (move : SetId × ℕ) → touches p side set k ≡ true → slice_get (side_of side p.seqs).places set ≡ Some place
-    → last_of (side_of side p.seqs) place.own ≡ Some move → touches p side move.0.0 k ≡ true
-
--- values of 0 or more by which each set passes on what its own sequence has, beside each sequence of the other player that
--- is empty or whose last set is connected to it
-pub record MeetsRows (p : PairsView) (values : List ℤ) : Type 0 where
-  pub row : (side : Side) (set : ℕ) (place : Place) (beside : ℕ) → slice_get (side_of side p.seqs).places set ≡ Some place → beside < count_of (side_of (other side) p.seqs)
-      → IsTouched p (other side) set (last_of (side_of (other side) p.seqs) beside) → sum_to place.actions (λ a. value_of p values side (place.first + a) beside) ≡ value_of p values side place.own beside
-  pub not_negative : (k : ℕ) → pos 0 ≤ℤ slice_index_or values k (pos 0)
 
 -- what a walk needs to go on: rows that are met, a positive total, connection that goes back along the own sequences, and
 -- no triangle
