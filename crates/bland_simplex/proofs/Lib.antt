@@ -1,4 +1,12 @@
+pub mod Beginning
+pub mod Counting
+pub mod Lowering
+pub mod Orders
+pub mod PhaseRows
 pub mod Ratios
 pub mod Read
 pub mod RightSides
 pub mod Signs
+pub mod StartEntries
+pub mod TurnSteps
+pub mod Wholes

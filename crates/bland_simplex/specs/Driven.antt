@@ -1,5 +1,5 @@
 -- Artificial columns that can't be driven out of the basis.
-use Rattle.std.specs.Prelude.{◌≡◌, ℕ, ◌<◌, ◌≤◌, pos}
+use Rattle.std.specs.Prelude.{◌≡◌, ◌≢◌, ℕ, ◌<◌, ◌≤◌, pos}
 use Rattle.int_tableau.specs.Content.{Content}
 
 -- a row with a basic artificial column is 0 in the program's columns
@@ -9,3 +9,10 @@ IsIdle t cols row = cols ≤ t.basic row → (col : ℕ) → col < cols → t.en
 -- each row with a basic artificial column is 0 in the program's columns
 abbrev pub IsDriven : Content → ℕ → ℕ → Type 0
 IsDriven t rows cols = (row : ℕ) → row < rows → IsIdle t cols row
+
+-- an entry that isn't 0, of a row with a basic artificial column and in a column of the program
+pub record DrivesOut (t : Content) (rows cols row col : ℕ) : Type 0 where
+  pub in_rows : row < rows
+  pub in_columns : col < cols
+  pub artificial : cols ≤ t.basic row
+  pub not_zero : t.entry row col ≢ pos 0

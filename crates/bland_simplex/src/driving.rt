@@ -1,10 +1,13 @@
 // Artificial columns are driven out of the basis.
-ghost use Rattle.std.specs.Prelude.{◌≡◌, ◌≢◌, ℕ, ◌<◌, pos, true, MatchOption, IfSome, IsSome, OnOk, None};
+ghost use Rattle.std.specs.Prelude.{◌≡◌, ◌≢◌, ◌<◌, ◌≤◌, pos, true, MatchOption, IfErr, IfSome, IsSome, OnOk, None, ℕ};
+ghost use Rattle.int_tableau.specs.declared.ends.PivotEnd.TheVariants.{NotBuilt};
 ghost use Rattle.bland_simplex.specs.Open.{IsOpen};
-ghost use Rattle.bland_simplex.specs.Driven.{IsDriven};
+ghost use Rattle.bland_simplex.specs.Driven.{IsDriven, DrivesOut};
+ghost use Rattle.bland_simplex.specs.Ready.{IsLowered, IsReady};
 
-use crate::shapes::{Shape, TURNS};
+use crate::shapes::Shape;
 use int_tableau::{PivotEnd, Tableau};
+use lp_form::Lp;
 
 /// An entry that isn't 0, and its magnitude.
 #[derive(Clone, Copy)]
@@ -31,8 +34,9 @@ fn smaller_in_row<T: Tableau>(
 ) -> Option<Candidate>
     requires open { IsOpen shape.rows shape.cols (T.content table.now) }
     requires row { row < shape.rows }
-    requires best { IfSome best (λ c. (c.row < shape.rows) × (c.col < shape.cols) × ((T.content table.now).entry c.row c.col ≢ pos 0)) }
-    ensures { MatchOption result ((best ≡ None) × ((col : ℕ) → col < shape.cols → (T.content table.now).entry row col ≡ pos 0)) (λ c. (c.row < shape.rows) × (c.col < shape.cols) × ((T.content table.now).entry c.row c.col ≢ pos 0)) }
+    requires artificial { shape.cols ≤ (T.content table.now).basic row }
+    requires best { IfSome best (λ c. DrivesOut (T.content table.now) shape.rows shape.cols c.row c.col) }
+    ensures { MatchOption result ((best ≡ None) × ((col : ℕ) → col < shape.cols → (T.content table.now).entry row col ≡ pos 0)) (λ c. DrivesOut (T.content table.now) shape.rows shape.cols c.row c.col) }
 {
     let mut least = best;
     for col in 0..shape.cols {
@@ -58,7 +62,7 @@ fn smaller_in_row<T: Tableau>(
 /// The first entry of least magnitude, by row and column, in the rows with basic artificial columns and the program's columns.
 fn smallest<T: Tableau>(table: &T, shape: Shape) -> Option<Candidate>
     requires { IsOpen shape.rows shape.cols (T.content table.now) }
-    ensures { MatchOption result (IsDriven (T.content table.now) shape.rows shape.cols) (λ c. (c.row < shape.rows) × (c.col < shape.cols) × ((T.content table.now).entry c.row c.col ≢ pos 0)) }
+    ensures { MatchOption result (IsDriven (T.content table.now) shape.rows shape.cols) (λ c. DrivesOut (T.content table.now) shape.rows shape.cols c.row c.col) }
 {
     let mut least: Option<Candidate> = None;
     for row in 0..shape.rows {
@@ -72,17 +76,15 @@ fn smallest<T: Tableau>(table: &T, shape: Shape) -> Option<Candidate>
     least
 }
 
-/// Drives artificial columns out of the basis until their rows are 0 in the program's columns.
-pub(crate) fn drive_out<T: Tableau>(table: &mut T, shape: Shape) -> Result<(), PivotEnd>
-    requires { IsOpen shape.rows shape.cols (T.content table.old) }
-    ensures open { OnOk result (IsOpen shape.rows shape.cols (T.content table.new)) }
-    ensures driven { OnOk result (IsDriven (T.content table.new) shape.rows shape.cols) }
+/// Drives artificial columns out of the basis until their rows are 0 in the program's columns. Each turn leaves one less.
+pub(crate) fn drive_out<T: Tableau>(lp: &Lp, table: &mut T) -> Result<(), PivotEnd>
+    requires { IsLowered lp.now (T.content table.old) }
+    ensures ready { OnOk result (IsReady lp.now (T.content table.new)) }
+    ensures built { IfErr result (λ end. end ≢ NotBuilt) }
 {
-    for _ in 0..TURNS {
-        let Some(least) = smallest(table, shape) else {
-            return Ok(());
-        };
+    let shape = Shape::of(lp);
+    while let Some(least) = smallest(table, shape) {
         table.pivot(least.row, least.col)?;
     }
-    Err(PivotEnd::NotBuilt)
+    Ok(())
 }

@@ -1,13 +1,17 @@
-ghost use Rattle.std.specs.Prelude.{◌≡◌, ℕ, ◌+◌, ◌<◌, ◌≤◌, ◌≤ℤ◌, pos, MatchOption, IfOk, OnOk, length, false};
+ghost use Rattle.std.specs.Prelude.{◌≡◌, ◌≢◌, ◌+◌, MatchOption, IfOk, IfErr, OnOk, length, true, false};
+ghost use Rattle.int_tableau.specs.declared.ends.PivotEnd.TheVariants.{NotBuilt};
 ghost use Rattle.int_tableau.specs.Start.{IsStart};
 ghost use Rattle.int_tableau.specs.Content.{IsTableau};
-ghost use Rattle.bland_simplex.specs.Open.{IsOpen, IsOpenFor, IsProgram};
+ghost use Rattle.bland_simplex.specs.Open.{IsOpen, IsProgram};
+ghost use Rattle.bland_simplex.specs.Order.{IsFirst, AreNone};
+ghost use Rattle.bland_simplex.specs.Ready.{IsUnderWay, IsLowered};
 ghost use Rattle.bland_simplex.specs.Multipliers.{IsStuck, AreMultipliers};
+ghost use Rattle.bland_simplex.specs.Lowering.{Lowers};
 ghost use Rattle.bland_simplex.specs.Answer.{FoundFor};
 
 use crate::driving::drive_out;
 use crate::leaving::leaving;
-use crate::shapes::{Shape, TURNS};
+use crate::shapes::Shape;
 use corr_num::difference;
 use int_tableau::{PivotEnd, Tableau};
 use lp_form::{Lp, NumList};
@@ -25,7 +29,7 @@ pub enum Found {
 /// The first column of the program, in the fixed order, that is negative in Phase.
 fn entering_program<T: Tableau>(table: &T, shape: Shape) -> Option<u32>
     requires { IsOpen shape.rows shape.cols (T.content table.now) }
-    ensures { MatchOption result ((col : ℕ) → col < shape.cols → pos 0 ≤ℤ (T.content table.now).entry (shape.rows + 2) col) (λ col. col < shape.cols) }
+    ensures { MatchOption result (AreNone shape.cols (Lowers (T.content table.now) shape.rows)) (IsFirst shape.cols shape.cols (Lowers (T.content table.now) shape.rows)) }
 {
     for behind in 0..shape.cols {
         let col = shape.cols - 1 - behind;
@@ -36,10 +40,11 @@ fn entering_program<T: Tableau>(table: &T, shape: Shape) -> Option<u32>
     None
 }
 
-/// The first artificial column that is negative in Phase.
+/// The first artificial column that is negative in Phase, where none of the program's is.
 fn entering_artificial<T: Tableau>(table: &T, shape: Shape) -> Option<u32>
-    requires { IsOpen shape.rows shape.cols (T.content table.now) }
-    ensures { MatchOption result ((col : ℕ) → shape.cols ≤ col → col < shape.cols + shape.rows → pos 0 ≤ℤ (T.content table.now).entry (shape.rows + 2) col) (λ col. col < shape.cols + shape.rows) }
+    requires open { IsOpen shape.rows shape.cols (T.content table.now) }
+    requires program { AreNone shape.cols (Lowers (T.content table.now) shape.rows) }
+    ensures { MatchOption result (AreNone (shape.cols + shape.rows) (Lowers (T.content table.now) shape.rows)) (IsFirst shape.cols (shape.cols + shape.rows) (Lowers (T.content table.now) shape.rows)) }
 {
     for row in 0..shape.rows {
         let col = shape.cols + row;
@@ -53,7 +58,7 @@ fn entering_artificial<T: Tableau>(table: &T, shape: Shape) -> Option<u32>
 /// The column that enters in the first phase: artificial ones are offered only where none of the program's may enter.
 fn entering<T: Tableau>(table: &T, shape: Shape) -> Option<u32>
     requires { IsOpen shape.rows shape.cols (T.content table.now) }
-    ensures { MatchOption result ((col : ℕ) → col < shape.cols + shape.rows → pos 0 ≤ℤ (T.content table.now).entry (shape.rows + 2) col) (λ col. col < shape.cols + shape.rows) }
+    ensures { MatchOption result (AreNone (shape.cols + shape.rows) (Lowers (T.content table.now) shape.rows)) (IsFirst shape.cols (shape.cols + shape.rows) (Lowers (T.content table.now) shape.rows)) }
 {
     match entering_program(table, shape) {
         Some(col) => Some(col),
@@ -61,25 +66,23 @@ fn entering<T: Tableau>(table: &T, shape: Shape) -> Option<u32>
     }
 }
 
-/// Pivots until Phase's right side is 0, or no column may enter. Whether it is 0.
-fn lower_phase<T: Tableau>(table: &mut T, shape: Shape) -> Result<bool, PivotEnd>
-    requires { IsOpen shape.rows shape.cols (T.content table.old) }
-    ensures open { OnOk result (IsOpen shape.rows shape.cols (T.content table.new)) }
-    ensures stuck { IfOk result (λ lowered. lowered ≡ false → IsStuck shape.rows shape.cols (T.content table.new)) }
+/// Pivots until Phase's right side is 0, or no column may enter. Whether it is 0. It ends by Bland's rule.
+fn lower_phase<T: Tableau>(lp: &Lp, table: &mut T) -> Result<bool, PivotEnd>
+    requires { IsUnderWay lp.now (T.content table.old) }
+    ensures way { OnOk result (IsUnderWay lp.now (T.content table.new)) }
+    ensures lowered { IfOk result (λ lowered. lowered ≡ true → IsLowered lp.now (T.content table.new)) }
+    ensures stuck { IfOk result (λ lowered. lowered ≡ false → IsStuck (length lp.now.rows) lp.now.cols (T.content table.new)) }
+    ensures built { IfErr result (λ end. end ≢ NotBuilt) }
 {
-    for _ in 0..TURNS {
-        if table.entry(shape.rows + 2, shape.cols + shape.rows) == 0 {
-            return Ok(true);
-        }
+    let shape = Shape::of(lp);
+    while table.entry(shape.rows + 2, shape.cols + shape.rows) != 0 {
         let Some(col) = entering(table, shape) else {
             return Ok(false);
         };
-        let Some(row) = leaving(table, shape, col) else {
-            return Err(PivotEnd::NotBuilt);
-        };
+        let row = leaving(table, shape, col);
         table.pivot(row, col)?;
     }
-    Err(PivotEnd::NotBuilt)
+    Ok(true)
 }
 
 /// The multipliers that show that there is no solution, put into a list with room for them.
@@ -87,7 +90,8 @@ fn multipliers<T: Tableau>(table: &T, shape: Shape, list: NumList) -> Result<Num
     requires open { IsOpen shape.rows shape.cols (T.content table.now) }
     requires stuck { IsStuck shape.rows shape.cols (T.content table.now) }
     requires empty { length list ≡ 0 }
-    ensures { IfOk result (AreMultipliers shape.rows shape.cols (T.content table.now)) }
+    ensures read { IfOk result (AreMultipliers shape.rows shape.cols (T.content table.now)) }
+    ensures built { IfErr result (λ end. end ≢ NotBuilt) }
 {
     let mut list = list;
     let denom = table.denom();
@@ -98,20 +102,21 @@ fn multipliers<T: Tableau>(table: &T, shape: Shape, list: NumList) -> Result<Num
     Ok(list)
 }
 
-/// Leads from the starting tableau to a feasible one, or to multipliers that show that there is none.
+/// Leads from the starting tableau to a ready one, or to multipliers that show that the program has no solution.
 ///
-/// Its list is reserved before the first pivot.
+/// Its list is reserved before the first pivot. Both phases end by themselves.
 pub fn feasible<T: Tableau>(alloc: Global, lp: &Lp, table: &mut T) -> Result<Found, PivotEnd>
     requires program { IsProgram lp.now }
     requires start { IsStart lp.now (T.content table.old) }
     requires rules { IsTableau (T.content table.old) }
-    ensures open { OnOk result (IsOpenFor lp.now (T.content table.new)) }
+    ensures way { OnOk result (IsUnderWay lp.now (T.content table.new)) }
     ensures found { IfOk result (FoundFor lp.now (T.content table.new)) }
+    ensures built { IfErr result (λ end. end ≢ NotBuilt) }
 {
     let shape = Shape::of(lp);
     let list = NumList::with_capacity(alloc, shape.rows as usize)?;
-    if lower_phase(table, shape)? {
-        drive_out(table, shape)?;
+    if lower_phase(lp, table)? {
+        drive_out(lp, table)?;
         Ok(Found::Start)
     } else {
         Ok(Found::Empty {

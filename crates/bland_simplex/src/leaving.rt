@@ -1,7 +1,7 @@
 // The row whose basic column leaves.
-ghost use Rattle.std.specs.Prelude.{◌≡◌, ℕ, ◌+◌, ◌<◌, ◌*ℤ◌, ◌<ℤ◌, ◌≤ℤ◌, true, false, pos, MatchOption};
-ghost use Rattle.exact_linear.specs.Simplex.{IsLeastRatio};
+ghost use Rattle.std.specs.Prelude.{◌≡◌, ◌↔◌, ℕ, ◌+◌, ◌<◌, ◌<ℤ◌, pos, IsTrue};
 ghost use Rattle.bland_simplex.specs.Open.{IsOpen};
+ghost use Rattle.bland_simplex.specs.Order.{rank, LeavesBefore, IsLeaving};
 
 use crate::shapes::Shape;
 use corr_num::cmp_products;
@@ -9,7 +9,9 @@ use int_tableau::Tableau;
 use std::cmp::Ordering;
 
 /// A column's place in the fixed order: the program's columns from the last to the first, then the artificial ones.
-fn rank(shape: Shape, col: u32) -> u32 {
+fn rank(shape: Shape, col: u32) -> u32
+    ensures { result ≡ rank shape.cols col }
+{
     if col < shape.cols {
         shape.cols - 1 - col
     } else {
@@ -24,8 +26,7 @@ fn leaves_before<T: Tableau>(table: &T, shape: Shape, col: u32, row: u32, other:
     requires column { col < shape.cols + shape.rows }
     requires row { row < shape.rows }
     requires other { other < shape.rows }
-    ensures smaller { result ≡ true → ((T.content table.now).entry row (shape.cols + shape.rows) *ℤ (T.content table.now).entry other col) ≤ℤ ((T.content table.now).entry other (shape.cols + shape.rows) *ℤ (T.content table.now).entry row col) }
-    ensures larger { result ≡ false → ((T.content table.now).entry other (shape.cols + shape.rows) *ℤ (T.content table.now).entry row col) ≤ℤ ((T.content table.now).entry row (shape.cols + shape.rows) *ℤ (T.content table.now).entry other col) }
+    ensures { IsTrue result ↔ LeavesBefore shape.cols (shape.cols + shape.rows) (T.content table.now) col row other }
 {
     let right = table.cols() - 1;
     let ratios = cmp_products(
@@ -40,10 +41,11 @@ fn leaves_before<T: Tableau>(table: &T, shape: Shape, col: u32, row: u32, other:
 
 /// The row that leaves where this column enters: of those with an entry above 0 one of least ratio, ties by the order of
 /// the basic columns.
-pub(crate) fn leaving<T: Tableau>(table: &T, shape: Shape, col: u32) -> Option<u32>
+pub(crate) fn leaving<T: Tableau>(table: &T, shape: Shape, col: u32) -> u32
     requires open { IsOpen shape.rows shape.cols (T.content table.now) }
     requires column { col < shape.cols + shape.rows }
-    ensures { MatchOption result ((row : ℕ) → row < shape.rows → (T.content table.now).entry row col ≤ℤ pos 0) (λ row. IsLeastRatio shape.rows (shape.cols + shape.rows) (T.content table.now).entry row col) }
+    requires some_row { (row : ℕ) × (row < shape.rows) × (pos 0 <ℤ (T.content table.now).entry row col) }
+    ensures { IsLeaving shape.rows shape.cols (shape.cols + shape.rows) (T.content table.now) col result }
 {
     let mut first = None;
     for row in 0..shape.rows {
@@ -57,5 +59,5 @@ pub(crate) fn leaving<T: Tableau>(table: &T, shape: Shape, col: u32) -> Option<u
             }
         }
     }
-    first
+    first.unwrap()
 }

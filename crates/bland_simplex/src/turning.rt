@@ -1,9 +1,13 @@
-ghost use Rattle.std.specs.Prelude.{◌≡◌, ◌↔◌, IsTrue, ◌+◌, ◌<◌, MatchOption, OnOk, length};
-ghost use Rattle.bland_simplex.specs.Open.{IsOpen, IsOpenFor};
+ghost use Rattle.std.specs.Prelude.{◌≢◌, ◌↔◌, IsTrue, ◌<◌, MatchOption, IfErr, OnOk, length};
+ghost use Rattle.lp_form.specs.Solutions.{HasBoundedPayoffs};
+ghost use Rattle.int_tableau.specs.declared.ends.PivotEnd.TheVariants.{NotBuilt};
+ghost use Rattle.bland_simplex.specs.Open.{IsOpen};
 ghost use Rattle.bland_simplex.specs.Improving.{Improves, IsOptimal};
+ghost use Rattle.bland_simplex.specs.Order.{IsFirst};
+ghost use Rattle.bland_simplex.specs.Ready.{IsReady};
 
 use crate::leaving::leaving;
-use crate::shapes::{Shape, TURNS};
+use crate::shapes::Shape;
 use corr_num::cmp_products;
 use int_tableau::{PivotEnd, Tableau};
 use lp_form::Lp;
@@ -28,7 +32,7 @@ fn improves<T: Tableau>(table: &T, shape: Shape, dir: &Dir, col: u32) -> bool
 /// The first improving column of the program in the fixed order.
 fn improving<T: Tableau>(table: &T, shape: Shape, dir: &Dir) -> Option<u32>
     requires { IsOpen shape.rows shape.cols (T.content table.now) }
-    ensures { MatchOption result (IsOptimal (T.content table.now) shape.rows shape.cols dir.now) (λ col. col < shape.cols) }
+    ensures { MatchOption result (IsOptimal (T.content table.now) shape.rows shape.cols dir.now) (IsFirst shape.cols shape.cols (Improves (T.content table.now) shape.rows dir.now)) }
 {
     for behind in 0..shape.cols {
         let col = shape.cols - 1 - behind;
@@ -41,22 +45,18 @@ fn improving<T: Tableau>(table: &T, shape: Shape, dir: &Dir) -> Option<u32>
 
 /// Pivots on to a tableau that is optimal for the direction and, among the optima, for its left turn.
 ///
-/// The table is one that `feasible` or this call left, and the payoff rows are bounded over the program's solutions: that
-/// isn't asked yet. It takes no memory of its own.
+/// The table is one that `feasible` or this call left. It takes no memory of its own, and ends by Bland's rule.
 pub fn best<T: Tableau>(lp: &Lp, table: &mut T, dir: &Dir) -> Result<(), PivotEnd>
-    requires { IsOpenFor lp.now (T.content table.old) }
-    ensures open { OnOk result (IsOpenFor lp.now (T.content table.new)) }
+    requires ready { IsReady lp.now (T.content table.old) }
+    requires bounded { HasBoundedPayoffs lp.now }
+    ensures ready { OnOk result (IsReady lp.now (T.content table.new)) }
     ensures optimal { OnOk result (IsOptimal (T.content table.new) (length lp.now.rows) lp.now.cols dir.now) }
+    ensures built { IfErr result (λ end. end ≢ NotBuilt) }
 {
     let shape = Shape::of(lp);
-    for _ in 0..TURNS {
-        let Some(col) = improving(table, shape, dir) else {
-            return Ok(());
-        };
-        let Some(row) = leaving(table, shape, col) else {
-            return Err(PivotEnd::NotBuilt);
-        };
+    while let Some(col) = improving(table, shape, dir) {
+        let row = leaving(table, shape, col);
         table.pivot(row, col)?;
     }
-    Err(PivotEnd::NotBuilt)
+    Ok(())
 }

@@ -1,6 +1,11 @@
-use Rattle.bland_simplex.specs.Open.{IsOpen}
+use Rattle.bland_simplex.specs.Ready.{IsLowered}
+use Rattle.bland_simplex.proofs.Lowering.{artificial_left}
 use Rattle.bland_simplex.proofs.driving.drive_out.Given as goal
 
--- the tableau stays open
-abbrev pub invariant-loop : goal.invariant-loop
-invariant-loop g l = IsOpen l.fn.shape.rows l.fn.shape.cols (g.T.Tableau.content l.table)
+-- Phase's right side stays 0
+abbrev pub invariant-loop-least : goal.invariant-loop-least
+invariant-loop-least g l = IsLowered l.fn.lp (g.T.Tableau.content l.table)
+
+-- the artificial columns that are basic
+abbrev pub decreases-loop-least : goal.decreases-loop-least
+decreases-loop-least g l = artificial_left l.fn.lp (g.T.Tableau.content l.table)

@@ -1,6 +1,11 @@
-use Rattle.bland_simplex.specs.Open.{IsOpen}
+use Rattle.bland_simplex.specs.Ready.{IsUnderWay}
+use Rattle.bland_simplex.proofs.Lowering.{lowering_left}
 use Rattle.bland_simplex.proofs.first_phase.lower_phase.Given as goal
 
--- the tableau stays open
-abbrev pub invariant-loop : goal.invariant-loop
-invariant-loop g l = IsOpen l.fn.shape.rows l.fn.shape.cols (g.T.Tableau.content l.table)
+-- the tableau stays one of the program's start, and feasible
+abbrev pub invariant-loop-shape : goal.invariant-loop-shape
+invariant-loop-shape g l = IsUnderWay l.fn.lp (g.T.Tableau.content l.table)
+
+-- the turns that Bland's rule still takes
+abbrev pub decreases-loop-shape : goal.decreases-loop-shape
+decreases-loop-shape g l = lowering_left l.fn.lp (g.T.Tableau.content l.table)

@@ -1,6 +1,11 @@
-use Rattle.bland_simplex.specs.Open.{IsOpenFor}
+use Rattle.bland_simplex.specs.Ready.{IsReady}
+use Rattle.bland_simplex.proofs.TurnSteps.{turns_left}
 use Rattle.bland_simplex.proofs.turning.best.Given as goal
 
--- the tableau stays open
-abbrev pub invariant-loop : goal.invariant-loop
-invariant-loop g l = IsOpenFor l.fn.lp (g.T.Tableau.content l.table)
+-- the tableau stays ready
+abbrev pub invariant-loop-col : goal.invariant-loop-col
+invariant-loop-col g l = IsReady l.fn.lp (g.T.Tableau.content l.table)
+
+-- the turns that Bland's rule still takes
+abbrev pub decreases-loop-col : goal.decreases-loop-col
+decreases-loop-col g l = turns_left l.fn.lp l.fn.dir (g.T.Tableau.content l.table)

@@ -1,0 +1,24 @@
+-- A turn is a step of Bland's rule by the ratio rule.
+use Rattle.bland_simplex.proofs.TurnSteps.{turning_ratio, turning_falls, ready_after}
+use Rattle.bland_simplex.proofs.turning.best.Goals as goal
+
+pub leaving-row-requires-clause-some_row : goal.leaving-row-requires-clause-some_row
+leaving-row-requires-clause-some_row g c =
+    let first = rw (c.of-shape.ensures.rows, c.of-shape.ensures.cols) at c.in-Some.ensures in
+    rw c.of-shape.ensures.rows (turning_ratio c.args.lp.now (g.T.Tableau.content c.loop-col.table) c.args.dir.now c.in-Some.col c.loop-col.invariant c.requires.bounded first.offered_is first.may)
+
+pub loop-col-smaller : goal.loop-col-smaller
+loop-col-smaller g c =
+    let first = rw (c.of-shape.ensures.rows, c.of-shape.ensures.cols) at c.in-Some.ensures in
+    let leaves = rw (c.of-shape.ensures.rows, c.of-shape.ensures.cols) at c.leaving-row.ensures in
+    let old = g.T.Tableau.content c.loop-col.table in
+    let new = g.T.Tableau.content c.pivot.new.self in
+    let pivoted = c.in_ok-pivot.ensures.answer in
+    let after = ready_after c.args.lp.now old new c.leaving-row.result c.in-Some.col c.loop-col.invariant c.pivot.ensures.rules pivoted first.offered_is leaves.ratio in
+    turning_falls c.args.lp.now old new c.args.dir.now c.leaving-row.result c.in-Some.col c.loop-col.invariant after pivoted first leaves
+
+pub loop-col-preserved : goal.loop-col-preserved
+loop-col-preserved g c =
+    let first = rw (c.of-shape.ensures.rows, c.of-shape.ensures.cols) at c.in-Some.ensures in
+    let leaves = rw (c.of-shape.ensures.rows, c.of-shape.ensures.cols) at c.leaving-row.ensures in
+    ready_after c.args.lp.now (g.T.Tableau.content c.loop-col.table) (g.T.Tableau.content c.pivot.new.self) c.leaving-row.result c.in-Some.col c.loop-col.invariant c.pivot.ensures.rules c.in_ok-pivot.ensures.answer first.offered_is leaves.ratio
