@@ -1,12 +1,12 @@
 -- The starting tableau of a program is under way: it is its own tableau, and its right sides are 1 and 0.
-use Rattle.std.proofs.Common.{◌≡◌, ◌≢◌, ⊎_elim, ℕ, ◌+◌, ◌<◌, pos, ◌≤ℤ◌, length, sym, ap, subst, ◌∙◌, arith}
+use Rattle.std.proofs.Common.{◌≡◌, ◌≢◌, ⊎_elim, ◌+◌, pos, ◌≤ℤ◌, length, sym, ap, subst, ◌∙◌, arith}
 use Rattle.std.proofs.lemmas.Bool.{cases_eq}
 use Rattle.std.proofs.lemmas.Int.{ints}
 use lib.Signed.{≤ℤ_refl}
 use Rattle.lp_form.specs.Program.{LpView, right_of}
 use Rattle.int_tableau.proofs.Starting.{start_reached}
 use Rattle.int_tableau.specs.Content.{Content, IsTableau}
-use Rattle.int_tableau.specs.Start.{start_entry, IsStart}
+use Rattle.int_tableau.specs.Start.{IsStart}
 use Rattle.bland_simplex.proofs.StartEntries.{entry_right}
 use Rattle.bland_simplex.specs.Open.{IsProgram}
 use Rattle.bland_simplex.specs.Ready.{IsUnderWay}

@@ -9,4 +9,5 @@ pub mod RightSides
 pub mod Signs
 pub mod StartEntries
 pub mod TurnSteps
+pub mod TwoColumns
 pub mod Wholes

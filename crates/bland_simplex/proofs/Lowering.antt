@@ -1,7 +1,7 @@
 -- The first phase. A column that is negative in Phase has a row for the ratio rule; each turn is a step of Bland's rule over Phase;
 -- and where Phase's right side is 0, the rows with basic artificial columns have right sides of 0, also while such columns are
 -- driven out.
-use Rattle.std.proofs.Common.{◌≡◌, ◌≢◌, ⊎_elim, ℕ, ◌+◌, ◌-◌, ◌<◌, ◌≤◌, ℤ, pos, ◌+ℤ◌, ◌-ℤ◌, ◌*ℤ◌, ◌≤ℤ◌, ◌<ℤ◌, neg_ℤ, length, false, refl, sym, ap, subst, ◌∙◌, arith}
+use Rattle.std.proofs.Common.{◌≡◌, ◌≢◌, ⊎_elim, ℕ, ◌+◌, ◌-◌, ◌<◌, ◌≤◌, ℤ, pos, ◌+ℤ◌, ◌*ℤ◌, ◌≤ℤ◌, ◌<ℤ◌, neg_ℤ, length, refl, sym, ap, subst, ◌∙◌, arith}
 use Rattle.std.proofs.lemmas.Bool.{cases_eq, cases_lt}
 use Rattle.std.proofs.lemmas.Int.{ints}
 use lib.Signed.{≤ℤ_refl}
@@ -17,8 +17,7 @@ use Rattle.exact_linear.specs.BlandRule.{IsBlandStep}
 use Rattle.exact_linear.specs.Content.{IsPricedTableau}
 use Rattle.exact_linear.specs.Content as linear_content
 use Rattle.exact_linear.specs.Pivot.{pivot_row}
-use Rattle.exact_linear.specs.Simplex.{IsFeasible, IsLeastRatio, IsInert}
-use Rattle.exact_linear.specs.Tableau.{IsTableauOf, column}
+use Rattle.exact_linear.specs.Tableau.{column}
 use Rattle.lp_form.specs.Program.{LpView}
 use Rattle.int_tableau.specs.Content.{Content, IsTableau}
 use Rattle.int_tableau.specs.Pivot.{IsPivoted}
@@ -27,10 +26,9 @@ use Rattle.bland_simplex.proofs.Counting.{count_behind, count_falls}
 use Rattle.bland_simplex.proofs.Orders.{rank_once}
 use Rattle.bland_simplex.proofs.PhaseRows.{some_phase_row}
 use Rattle.bland_simplex.proofs.StartEntries.{phase_weight, weight_program, weight_right, weight_artificial}
-use Rattle.bland_simplex.proofs.Wholes.{width, side, whole_of, pivot_at, open_after, reached_after, moves_after, way_after}
+use Rattle.bland_simplex.proofs.Wholes.{width, side, whole_of, pivot_at, open_after, reached_after, moves_after}
 use Rattle.bland_simplex.specs.Driven.{IsDriven, DrivesOut}
 use Rattle.bland_simplex.specs.Lowering.{Lowers}
-use Rattle.bland_simplex.specs.Open.{IsOpen, IsOpenFor}
 use Rattle.bland_simplex.specs.Order.{rank, IsFirst, IsLeaving}
 use Rattle.bland_simplex.specs.Ready.{IsUnderWay, IsLowered, IsReady}
 

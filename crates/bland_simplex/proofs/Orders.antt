@@ -1,6 +1,6 @@
 -- The fixed order of the columns: no two columns have one place, and the first column that may enter is the one at which a search
 -- through the program's columns from the last to the first, and then through the artificial ones, stops.
-use Rattle.std.proofs.Common.{◌≡◌, ⊎_elim, ℕ, ◌+◌, ◌-◌, ◌<◌, ◌≤◌, true, false, cond, nat_lt, lt-ltb, le-ltb, refl, sym, ap, subst, ◌∙◌, arith}
+use Rattle.std.proofs.Common.{◌≡◌, ⊎_elim, ℕ, ◌+◌, ◌-◌, ◌<◌, ◌≤◌, nat_lt, lt-ltb, le-ltb, sym, subst, ◌∙◌, arith}
 use Rattle.std.proofs.lemmas.Bool.{cases_lt, cond-true, cond-false}
 use Rattle.bland_simplex.specs.Order.{rank, IsFirst, AreNone}
 

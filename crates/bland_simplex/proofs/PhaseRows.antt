@@ -1,7 +1,7 @@
 -- A row for the ratio rule in the first phase. Where no column costs less than minus the sum of its coordinates, the row of reduced
 -- costs is, up to what is not negative, minus the basic columns' weights times their rows; so a column at which it is negative has
 -- a positive entry in some row.
-use Rattle.std.proofs.Common.{◌≡◌, ℕ, ◌<◌, ◌≤◌, ℤ, pos, ◌+ℤ◌, ◌*ℤ◌, ◌≤ℤ◌, ◌<ℤ◌, refl, sym, ap, ◌∙◌, arith}
+use Rattle.std.proofs.Common.{◌≡◌, ℕ, ◌<◌, ℤ, pos, ◌+ℤ◌, ◌*ℤ◌, ◌≤ℤ◌, ◌<ℤ◌, refl, sym, ap, ◌∙◌, arith}
 use Rattle.std.proofs.lemmas.Int.{ints}
 use lib.Signed.{lt_z}
 use Rattle.exact_algebra.proofs.FiniteChoice.{FirstBelow, first, no_first, first_below}

@@ -1,6 +1,6 @@
 -- The row that leaves among the rows passed. A row more is passed over, takes the place of the first one, or leaves it there:
 -- ratios are compared across, so that the order by ratio and then by rank goes on from row to row.
-use Rattle.std.proofs.Common.{◌≡◌, ◌≢◌, ◌⊎◌, ℕ, ◌+◌, ◌<◌, ◌≤◌, Bool, true, false, ℤ, pos, ◌*ℤ◌, ◌<ℤ◌, ◌≤ℤ◌, Option, Some, None, MatchOption, IsTrue, Less, Equal, Greater, int_cmp, to_z, of_z, inl, inr, refl, sym, ap, subst, ◌∙◌, ⊎_elim, arith, below_more}
+use Rattle.std.proofs.Common.{◌≡◌, ◌≢◌, ◌⊎◌, ℕ, ◌+◌, ◌<◌, ◌≤◌, Bool, ℤ, pos, ◌*ℤ◌, ◌<ℤ◌, ◌≤ℤ◌, Option, Some, None, MatchOption, IsTrue, Less, Equal, Greater, int_cmp, to_z, of_z, inl, inr, sym, ap, ◌∙◌, ⊎_elim, arith, below_more}
 use Rattle.std.proofs.lemmas.Bool.{cases_lt}
 use Rattle.std.proofs.lemmas.Int.{ints}
 use Rattle.std.specs.Bool.{◌==◌}

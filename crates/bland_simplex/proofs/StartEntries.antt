@@ -1,6 +1,6 @@
 -- The entries of a program's starting tableau, place by place, and what Phase's costs and the rows' entries come to in a column:
 -- 0 for the program's columns and the right side, 1 for an artificial one.
-use Rattle.std.proofs.Common.{◌≡◌, ◌≢◌, ⊎_elim, ℕ, ◌+◌, ◌<◌, ◌≤◌, ℤ, pos, ◌+ℤ◌, ◌*ℤ◌, neg_ℤ, Bool, true, false, cond, nat_lt, nat_eq, length, refl, sym, ap, ◌∙◌, arith, lt-ltb, le-ltb, eq-eqb, ne_eqb}
+use Rattle.std.proofs.Common.{◌≡◌, ◌≢◌, ℕ, ◌+◌, ◌<◌, ℤ, pos, ◌+ℤ◌, neg_ℤ, true, false, nat_lt, nat_eq, length, refl, ◌∙◌, arith, lt-ltb, le-ltb, eq-eqb, ne_eqb}
 use Rattle.std.proofs.lemmas.Int.{ints}
 use Rattle.exact_algebra.proofs.Sums.{sum_to-same, sum_to-one}
 use Rattle.exact_algebra.specs.Sums.{sum_to}

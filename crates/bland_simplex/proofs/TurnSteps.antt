@@ -1,7 +1,7 @@
 -- Turning. The two objectives of a direction are one cost row: a large multiple of the reduced costs in the direction and those in
 -- its left turn, so that a column improves exactly where that row is negative. Where payoffs are bounded such a column has a row
 -- for the ratio rule, and each turn is a step of Bland's rule over that row.
-use Rattle.std.proofs.Common.{◌≡◌, ◌≢◌, ◌⊎◌, ⊎_elim, inl, inr, ℕ, suc, ◌+◌, ◌-◌, ◌^◌, ◌<◌, ◌≤◌, ℤ, pos, negsuc, ◌+ℤ◌, ◌-ℤ◌, ◌*ℤ◌, ◌≤ℤ◌, ◌<ℤ◌, neg_ℤ, unsigned_abs, length, refl, sym, ap, ap₂, subst, ◌∙◌, arith}
+use Rattle.std.proofs.Common.{◌≡◌, ◌≢◌, ◌⊎◌, ⊎_elim, inl, inr, ℕ, suc, ◌+◌, ◌^◌, ◌<◌, ◌≤◌, ℤ, pos, negsuc, ◌+ℤ◌, ◌-ℤ◌, ◌*ℤ◌, ◌≤ℤ◌, ◌<ℤ◌, neg_ℤ, unsigned_abs, length, sym, ap, ap₂, subst, ◌∙◌, arith}
 use Rattle.std.proofs.lemmas.Bool.{cases_eq, cases_lt}
 use Rattle.std.proofs.lemmas.Int.{ints}
 use Rattle.exact_algebra.proofs.Order.{below_or_at_least, times_at_most, times_not_positive}
@@ -14,15 +14,15 @@ use Rattle.corr_num.specs.Narrow.{Narrow}
 use Rattle.corr_num.proofs.MagnitudeBounds.{narrow_products_difference}
 use Rattle.exact_linear.proofs.BlandMeasure.{bland_measure, bland_falls}
 use Rattle.exact_linear.proofs.CostRows.{costs_combined}
-use Rattle.exact_linear.proofs.InertRows.{inert_kept, inert_stays}
+use Rattle.exact_linear.proofs.InertRows.{inert_kept}
 use Rattle.exact_linear.proofs.Rays.{some_ratio}
 use Rattle.exact_linear.specs.BlandRule.{IsBlandStep}
 use Rattle.exact_linear.specs.Content.{IsPricedTableau}
 use Rattle.exact_linear.specs.Content as linear_content
 use Rattle.exact_linear.specs.Simplex as simplex
 use Rattle.exact_linear.specs.Simplex.{IsFeasible, IsLeastRatio, IsInert}
-use Rattle.exact_linear.specs.Tableau.{IsTableauOf, IsCostRow, column}
-use Rattle.lp_form.specs.Program.{LpView, coefficient, right_of, payoff_of}
+use Rattle.exact_linear.specs.Tableau.{IsCostRow, column}
+use Rattle.lp_form.specs.Program.{LpView, coefficient, payoff_of}
 use Rattle.lp_form.specs.Solutions.{IsSolution, paid, IsBoundedBy, HasBoundedPayoffs}
 use Rattle.int_tableau.specs.Content.{Content, IsTableau}
 use Rattle.int_tableau.specs.Pivot.{IsPivoted}
@@ -32,9 +32,9 @@ use Rattle.bland_simplex.proofs.Orders.{rank_once}
 use Rattle.bland_simplex.proofs.StartEntries.{entry_program, entry_right, first_program, first_right, second_program, second_right}
 use Rattle.bland_simplex.proofs.Wholes.{width, side, whole_of, pivot_at, moves_after, way_after}
 use Rattle.bland_simplex.specs.Improving.{reduced, reduced_left, Improves}
-use Rattle.bland_simplex.specs.Open.{IsOpen, IsOpenFor}
+use Rattle.bland_simplex.specs.Open.{IsOpen}
 use Rattle.bland_simplex.specs.Order.{rank, IsFirst, IsLeaving}
-use Rattle.bland_simplex.specs.Ready.{IsUnderWay, IsReady}
+use Rattle.bland_simplex.specs.Ready.{IsReady}
 
 -- ---- one row for both objectives
 

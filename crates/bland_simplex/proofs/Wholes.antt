@@ -1,12 +1,12 @@
 -- Open tableaus of a program's start as whole tableaus in its own numbers of rows and columns, and what a pivot by the ratio rule
 -- keeps of them.
-use Rattle.std.proofs.Common.{◌≡◌, ◌≢◌, ⊎_elim, ℕ, ◌+◌, ◌-◌, ◌<◌, ◌≤◌, ℤ, pos, ◌≤ℤ◌, ◌<ℤ◌, length, false, refl, sym, subst, ◌∙◌, arith}
+use Rattle.std.proofs.Common.{◌≡◌, ◌≢◌, ⊎_elim, ℕ, ◌+◌, ◌-◌, ◌<◌, pos, length, sym, ◌∙◌, arith}
 use Rattle.std.proofs.lemmas.Bool.{cases_eq}
 use Rattle.std.proofs.lemmas.Int.{ints}
 use Rattle.exact_algebra.proofs.Families.{put, put-same, put-other}
-use Rattle.exact_linear.proofs.SimplexSteps.{ratio_step, level_step}
+use Rattle.exact_linear.proofs.SimplexSteps.{ratio_step}
 use Rattle.exact_linear.specs.Pivot.{IsPivot}
-use Rattle.exact_linear.specs.Simplex.{IsFeasible, IsLeastRatio}
+use Rattle.exact_linear.specs.Simplex.{IsLeastRatio}
 use Rattle.exact_linear.specs.Tableau.{IsTableauOf}
 use Rattle.lp_form.specs.Program.{LpView}
 use Rattle.int_tableau.proofs.Reaching.{pivot_of, start_kept}
@@ -14,7 +14,7 @@ use Rattle.int_tableau.specs.Content.{Content, IsTableau}
 use Rattle.int_tableau.specs.Pivot.{IsPivoted}
 use Rattle.int_tableau.specs.Reached.{IsReachedFrom}
 use Rattle.int_tableau.specs.Start.{start_entry}
-use Rattle.bland_simplex.specs.Open.{IsOpen, IsOpenFor}
+use Rattle.bland_simplex.specs.Open.{IsOpenFor}
 use Rattle.bland_simplex.specs.Ready.{IsUnderWay}
 
 module _ (lp : LpView) where

@@ -1,5 +1,5 @@
 -- The fixed order of the columns, and what the rule of smallest subscripts takes in it (Bland 1977).
-use Rattle.std.specs.Prelude.{◌≡◌, ◌⊎◌, ℕ, ◌+◌, ◌-◌, ◌<◌, ◌≤◌, cond, nat_lt, pos, ◌*ℤ◌, ◌<ℤ◌}
+use Rattle.std.specs.Prelude.{◌≡◌, ◌⊎◌, ℕ, ◌-◌, ◌<◌, ◌≤◌, cond, nat_lt, pos, ◌*ℤ◌, ◌<ℤ◌}
 use Rattle.exact_linear.specs.Simplex.{IsLeastRatio}
 use Rattle.int_tableau.specs.Content.{Content}
 

@@ -1,4 +1,5 @@
 ghost use Rattle.std.specs.Prelude.{◌≡◌, ◌<◌, length, IfOk};
+ghost use Rattle.lp_form.specs.Solutions.{HasBoundedPayoffs};
 ghost use Rattle.bland_simplex.specs.Open.{IsProgram};
 
 use crate::{Dir, Found, best, feasible};
@@ -60,16 +61,32 @@ fn an_equation_that_stands_twice_leaves_an_inert_row(rt: HostRuntime) -> Result<
     Ok(())
 }
 
-#[test]
-fn each_axis_has_its_basis(rt: HostRuntime) -> Result<(), PivotEnd> {
-    let mut lp = program(rt.alloc(), &[[1, 1]])?;
+/// The program in which two numbers add up to 1, of which the first pays 3 and 1, and the second 1 and 2.
+fn one_row(alloc: Global) -> Result<Lp, AllocError>
+    ensures program { IfOk result IsProgram }
+    ensures bounded { IfOk result HasBoundedPayoffs }
+    ensures columns { IfOk result (λ lp. lp.cols ≡ 2) }
+    ensures rows { IfOk result (λ lp. length lp.rows ≡ 1) }
+{
+    let mut lp = Lp::new(alloc, 1, 2)?;
+    lp.set_right(0, 1);
+    lp.set(0, 0, 1)?;
+    lp.set(0, 1, 1)?;
     lp.set_payoff(Side::One, 0, 3)?;
     lp.set_payoff(Side::One, 1, 1)?;
     lp.set_payoff(Side::Two, 0, 1)?;
     lp.set_payoff(Side::Two, 1, 2)?;
+    Ok(lp)
+}
+
+#[test]
+fn each_axis_has_its_basis(rt: HostRuntime) -> Result<(), PivotEnd> {
+    let lp = one_row(rt.alloc())?;
     assert!(&rt; starts_narrow(&lp));
     let mut table = Dense::start(rt.alloc(), &lp)?;
-    assert!(&rt; matches!(feasible(rt.alloc(), &lp, &mut table)?, Found::Start));
+    let Found::Start = feasible(rt.alloc(), &lp, &mut table)? else {
+        return Err(PivotEnd::NotBuilt);
+    };
     best(&lp, &mut table, &Dir { a: 1, b: 0 })?;
     assert_eq!(&rt; table.basic(0), 0);
     best(&lp, &mut table, &Dir { a: 0, b: 1 })?;

@@ -1,5 +1,5 @@
 -- Each artificial column was passed as that of its row.
-use Rattle.std.proofs.Common.{◌≡◌, ◌+◌, ◌-◌, ◌<ℤ◌, pos, arith}
+use Rattle.std.proofs.Common.{arith}
 use Rattle.std.proofs.lemmas.Int.{ints}
 use Rattle.bland_simplex.proofs.Orders.{none_of_all, first_of_artificial}
 use Rattle.bland_simplex.specs.Lowering.{Lowers}

@@ -1,5 +1,5 @@
 -- Counted from the other end, each column of the program was passed.
-use Rattle.std.proofs.Common.{◌≡◌, ◌-◌, ◌<ℤ◌, pos, arith}
+use Rattle.std.proofs.Common.{arith}
 use Rattle.std.proofs.lemmas.Int.{ints}
 use Rattle.bland_simplex.proofs.Orders.{none_of_program, first_of_program}
 use Rattle.bland_simplex.specs.Lowering.{Lowers}

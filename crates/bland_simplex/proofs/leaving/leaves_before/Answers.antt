@@ -1,5 +1,5 @@
 -- The two comparisons tell the order of the ratios and of the ranks.
-use Rattle.std.proofs.Common.{◌≡◌, ◌+◌, ◌-◌, arith}
+use Rattle.std.proofs.Common.{◌+◌, ◌-◌, arith}
 use Rattle.bland_simplex.proofs.Ratios.{ratios_tell}
 use Rattle.bland_simplex.proofs.leaving.leaves_before.Goals as goal
 

@@ -1,5 +1,5 @@
 -- A row is passed over, takes the first one's place, or leaves it there.
-use Rattle.std.proofs.Common.{◌≡◌, ◌+◌, ◌≤ℤ◌, ◌<ℤ◌, pos, Some, None, true, false, sym, ◌∙◌, arith}
+use Rattle.std.proofs.Common.{◌≡◌, ◌+◌, sym, ◌∙◌, arith}
 use Rattle.std.proofs.lemmas.Int.{ints}
 use Rattle.bland_simplex.proofs.Ratios.{option_passed, option_first, option_taken, option_kept, leaving_at_last}
 use Rattle.bland_simplex.proofs.leaving.leaving.Goals as goal
