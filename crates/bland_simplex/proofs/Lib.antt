@@ -6,6 +6,7 @@ pub mod PhaseRows
 pub mod Ratios
 pub mod Read
 pub mod RightSides
+pub mod Runs
 pub mod Signs
 pub mod StartEntries
 pub mod TurnSteps

@@ -6,3 +6,4 @@ pub mod Multipliers
 pub mod Open
 pub mod Order
 pub mod Ready
+pub mod Steps

@@ -1,9 +1,9 @@
 // Artificial columns are driven out of the basis.
-ghost use Rattle.std.specs.Prelude.{◌≡◌, ◌≢◌, ◌<◌, ◌≤◌, pos, true, MatchOption, IfErr, IfSome, IsSome, OnOk, None, ℕ};
-ghost use Rattle.int_tableau.specs.declared.ends.PivotEnd.TheVariants.{NotBuilt};
+ghost use Rattle.std.specs.Prelude.{◌≡◌, ◌<◌, ◌≤◌, pos, true, MatchOption, IfErr, IfSome, IsSome, OnOk, None, ℕ};
 ghost use Rattle.bland_simplex.specs.Open.{IsOpen};
 ghost use Rattle.bland_simplex.specs.Driven.{IsDriven, DrivesOut};
 ghost use Rattle.bland_simplex.specs.Ready.{IsLowered, IsReady};
+ghost use Rattle.bland_simplex.specs.Steps.{IsFirstStep, StepsLead, StepsEnd};
 
 use crate::shapes::Shape;
 use int_tableau::{PivotEnd, Tableau};
@@ -80,7 +80,8 @@ fn smallest<T: Tableau>(table: &T, shape: Shape) -> Option<Candidate>
 pub(crate) fn drive_out<T: Tableau>(lp: &Lp, table: &mut T) -> Result<(), PivotEnd>
     requires { IsLowered lp.now (T.content table.old) }
     ensures ready { OnOk result (IsReady lp.now (T.content table.new)) }
-    ensures built { IfErr result (λ end. end ≢ NotBuilt) }
+    ensures steps { OnOk result (StepsLead (IsFirstStep lp.now) (T.content table.old) (T.content table.new)) }
+    ensures end { IfErr result (StepsEnd (IsFirstStep lp.now) (T.content table.old) (T.content table.new)) }
 {
     let shape = Shape::of(lp);
     while let Some(least) = smallest(table, shape) {

@@ -1,5 +1,5 @@
 ghost use Rattle.std.specs.Prelude.{◌≡◌, ◌≢◌, ◌+◌, MatchOption, IfOk, IfErr, OnOk, length, true, false};
-ghost use Rattle.int_tableau.specs.declared.ends.PivotEnd.TheVariants.{NotBuilt};
+ghost use Rattle.int_tableau.specs.declared.ends.PivotEnd.TheVariants.{NoMemory, NotBuilt};
 ghost use Rattle.int_tableau.specs.Start.{IsStart};
 ghost use Rattle.int_tableau.specs.Content.{IsTableau};
 ghost use Rattle.bland_simplex.specs.Open.{IsOpen, IsProgram};
@@ -7,6 +7,7 @@ ghost use Rattle.bland_simplex.specs.Order.{IsFirst, AreNone};
 ghost use Rattle.bland_simplex.specs.Ready.{IsUnderWay, IsLowered};
 ghost use Rattle.bland_simplex.specs.Multipliers.{IsStuck, AreMultipliers};
 ghost use Rattle.bland_simplex.specs.Lowering.{Lowers};
+ghost use Rattle.bland_simplex.specs.Steps.{IsFirstStep, StepsLead, StepsEnd};
 ghost use Rattle.bland_simplex.specs.Answer.{FoundFor};
 
 use crate::driving::drive_out;
@@ -72,7 +73,8 @@ fn lower_phase<T: Tableau>(lp: &Lp, table: &mut T) -> Result<bool, PivotEnd>
     ensures way { OnOk result (IsUnderWay lp.now (T.content table.new)) }
     ensures lowered { IfOk result (λ lowered. lowered ≡ true → IsLowered lp.now (T.content table.new)) }
     ensures stuck { IfOk result (λ lowered. lowered ≡ false → IsStuck (length lp.now.rows) lp.now.cols (T.content table.new)) }
-    ensures built { IfErr result (λ end. end ≢ NotBuilt) }
+    ensures steps { OnOk result (StepsLead (IsFirstStep lp.now) (T.content table.old) (T.content table.new)) }
+    ensures end { IfErr result (StepsEnd (IsFirstStep lp.now) (T.content table.old) (T.content table.new)) }
 {
     let shape = Shape::of(lp);
     while table.entry(shape.rows + 2, shape.cols + shape.rows) != 0 {
@@ -91,7 +93,7 @@ fn multipliers<T: Tableau>(table: &T, shape: Shape, list: NumList) -> Result<Num
     requires stuck { IsStuck shape.rows shape.cols (T.content table.now) }
     requires empty { length list ≡ 0 }
     ensures read { IfOk result (AreMultipliers shape.rows shape.cols (T.content table.now)) }
-    ensures built { IfErr result (λ end. end ≢ NotBuilt) }
+    ensures short { IfErr result (λ end. end ≡ NoMemory) }
 {
     let mut list = list;
     let denom = table.denom();
@@ -111,6 +113,8 @@ pub fn feasible<T: Tableau>(alloc: Global, lp: &Lp, table: &mut T) -> Result<Fou
     requires rules { IsTableau (T.content table.old) }
     ensures way { OnOk result (IsUnderWay lp.now (T.content table.new)) }
     ensures found { IfOk result (FoundFor lp.now (T.content table.new)) }
+    ensures steps { OnOk result (StepsLead (IsFirstStep lp.now) (T.content table.old) (T.content table.new)) }
+    ensures end { IfErr result (StepsEnd (IsFirstStep lp.now) (T.content table.old) (T.content table.new)) }
     ensures built { IfErr result (λ end. end ≢ NotBuilt) }
 {
     let shape = Shape::of(lp);

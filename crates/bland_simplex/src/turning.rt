@@ -5,6 +5,7 @@ ghost use Rattle.bland_simplex.specs.Open.{IsOpen};
 ghost use Rattle.bland_simplex.specs.Improving.{Improves, IsOptimal};
 ghost use Rattle.bland_simplex.specs.Order.{IsFirst};
 ghost use Rattle.bland_simplex.specs.Ready.{IsReady};
+ghost use Rattle.bland_simplex.specs.Steps.{IsTurning, StepsLead, StepsEnd};
 
 use crate::leaving::leaving;
 use crate::shapes::Shape;
@@ -51,6 +52,8 @@ pub fn best<T: Tableau>(lp: &Lp, table: &mut T, dir: &Dir) -> Result<(), PivotEn
     requires bounded { HasBoundedPayoffs lp.now }
     ensures ready { OnOk result (IsReady lp.now (T.content table.new)) }
     ensures optimal { OnOk result (IsOptimal (T.content table.new) (length lp.now.rows) lp.now.cols dir.now) }
+    ensures steps { OnOk result (StepsLead (IsTurning lp.now dir.now) (T.content table.old) (T.content table.new)) }
+    ensures end { IfErr result (StepsEnd (IsTurning lp.now dir.now) (T.content table.old) (T.content table.new)) }
     ensures built { IfErr result (λ end. end ≢ NotBuilt) }
 {
     let shape = Shape::of(lp);
