@@ -1,5 +1,6 @@
 pub mod Beginning
 pub mod Counting
+pub mod Emptiness
 pub mod Lowering
 pub mod Orders
 pub mod PhaseRows

@@ -33,7 +33,7 @@ use Rattle.bland_simplex.specs.Order.{rank, IsFirst, IsLeaving}
 use Rattle.bland_simplex.specs.Ready.{IsUnderWay, IsLowered, IsReady}
 
 module _ (lp : LpView) where
-  weight_over : (j : ℕ) → j < width lp → pos 0 ≤ℤ phase_weight lp j
+  pub weight_over : (j : ℕ) → j < width lp → pos 0 ≤ℤ phase_weight lp j
   weight_over j l =
       ⊎_elim
       (λ (h : j < lp.cols). subst (λ x. pos 0 ≤ℤ x) (sym (weight_program lp j h)) (≤ℤ_refl (pos 0)))

@@ -87,7 +87,7 @@ module _ (lp : LpView) where
       let last : nat_eq (lp.cols + length lp.rows) (lp.cols + length lp.rows) ≡ true = eq-eqb (lp.cols + length lp.rows) (lp.cols + length lp.rows) refl in
       rw (not_program 2, not_first_too, not_second, past, last)
 
-  phase_artificial : (k : ℕ) → k < length lp.rows → start_entry lp (length lp.rows + 2) (lp.cols + k) ≡ pos 0
+  pub phase_artificial : (k : ℕ) → k < length lp.rows → start_entry lp (length lp.rows + 2) (lp.cols + k) ≡ pos 0
   phase_artificial k h =
       let past : nat_lt (lp.cols + k) lp.cols ≡ false = le-ltb (lp.cols + k) lp.cols (omega arith) in
       let not_last : nat_eq (lp.cols + k) (lp.cols + length lp.rows) ≡ false = ne_eqb (lp.cols + k) (lp.cols + length lp.rows) (omega arith) in

@@ -109,7 +109,7 @@ multiple_bound (negsuc n) bound x low high =
     opposite n bound = neg_ℤ-*ℤ (pos (suc n)) (neg_ℤ bound) ∙ (ap neg_ℤ (*ℤ-neg_ℤ (pos (suc n)) bound) ∙ neg_ℤ-neg_ℤ (pos (suc n) *ℤ bound))
 
 module _ (lp : LpView) where
-  solution_of : (total : ℤ) (x : ℕ → ℤ) → simplex.IsSolution (length lp.rows) lp.cols (side lp) (column (start_entry lp)) total x → IsSolution lp total x
+  pub solution_of : (total : ℤ) (x : ℕ → ℤ) → simplex.IsSolution (length lp.rows) lp.cols (side lp) (column (start_entry lp)) total x → IsSolution lp total x
   solution_of total x solution = record {
     not_negative = solution.positive;
     meets = λ row h. sum_to-same lp.cols (λ col. coefficient lp row col *ℤ x col) (λ j. start_entry lp row j *ℤ x j) (λ j l. ap (λ e. e *ℤ x j) (sym (entry_program lp row j h l))) ∙ (solution.makes row h ∙ ap (λ e. total *ℤ e) (entry_right lp row h));

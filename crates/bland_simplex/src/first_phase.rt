@@ -8,7 +8,7 @@ ghost use Rattle.bland_simplex.specs.Ready.{IsUnderWay, IsLowered};
 ghost use Rattle.bland_simplex.specs.Multipliers.{IsStuck, AreMultipliers};
 ghost use Rattle.bland_simplex.specs.Lowering.{Lowers};
 ghost use Rattle.bland_simplex.specs.Steps.{IsFirstStep, StepsLead, StepsEnd};
-ghost use Rattle.bland_simplex.specs.Answer.{FoundFor};
+ghost use Rattle.bland_simplex.specs.Answer.{FoundFor, IsTrueOf};
 
 use crate::driving::drive_out;
 use crate::leaving::leaving;
@@ -113,6 +113,7 @@ pub fn feasible<T: Tableau>(alloc: Global, lp: &Lp, table: &mut T) -> Result<Fou
     requires rules { IsTableau (T.content table.old) }
     ensures way { OnOk result (IsUnderWay lp.now (T.content table.new)) }
     ensures found { IfOk result (FoundFor lp.now (T.content table.new)) }
+    ensures exactly { IfOk result (IsTrueOf lp.now) }
     ensures steps { OnOk result (StepsLead (IsFirstStep lp.now) (T.content table.old) (T.content table.new)) }
     ensures end { IfErr result (StepsEnd (IsFirstStep lp.now) (T.content table.old) (T.content table.new)) }
     ensures built { IfErr result (λ end. end ≢ NotBuilt) }
