@@ -1,13 +1,12 @@
 -- Where the first phase is stuck, the multipliers that are read off it show that there is no solution: what they make of a column is
 -- Phase's entry with its sign changed. And such multipliers leave no room for a solution, by weak duality; a ready tableau has one,
 -- its basic solution.
-use Rattle.std.proofs.Common.{◌≡◌, ◌≢◌, ◌⊎◌, ⊎_elim, inl, inr, ℕ, ◌+◌, ◌-◌, ◌<◌, ◌≤◌, List, All, ℤ, pos, ◌+ℤ◌, ◌-ℤ◌, ◌*ℤ◌, ◌≤ℤ◌, ◌<ℤ◌, neg_ℤ, unsigned_abs, slice_index_or, length, refl, sym, ap, ap₂, subst, ◌∙◌, arith}
+use Rattle.std.proofs.Common.{◌≡◌, ◌≢◌, ◌⊎◌, ⊎_elim, inl, inr, ℕ, ◌+◌, ◌<◌, ◌≤◌, List, ℤ, pos, ◌+ℤ◌, ◌-ℤ◌, ◌*ℤ◌, ◌≤ℤ◌, ◌<ℤ◌, neg_ℤ, slice_index_or, length, refl, sym, ap, ◌∙◌, arith}
 use Rattle.std.proofs.lemmas.Bool.{cases_eq, cases_lt}
 use Rattle.std.proofs.lemmas.Int.{ints}
 use Rattle.exact_algebra.proofs.Matrices.{row_matrix_column}
 use Rattle.exact_algebra.proofs.Order.{product_not_negative, product_not_positive, product_positive}
-use Rattle.exact_algebra.proofs.RingLaws.{*ℤ_comm, *ℤ-zero, zero-*ℤ, *ℤ-one}
-use Rattle.exact_algebra.proofs.RingTactic.{linear}
+use Rattle.exact_algebra.proofs.RingLaws.{*ℤ_comm, *ℤ-zero, *ℤ-one}
 use Rattle.exact_algebra.proofs.SumOrder.{sum_to_at_most, sum_to_not_negative}
 use Rattle.exact_algebra.proofs.Sums.{sum_to-same, sum_to-one, sum_to-nothing}
 use Rattle.exact_algebra.specs.Sums.{sum_to}
@@ -17,10 +16,8 @@ use Rattle.exact_linear.proofs.Multipliers.{phase_multipliers}
 use Rattle.exact_linear.proofs.Phase.{phase_row}
 use Rattle.exact_linear.proofs.Solutions.{basic_solution}
 use Rattle.exact_linear.specs.Simplex.{basic_value}
-use Rattle.exact_linear.specs.Tableau.{IsTableauOf, column}
-use Rattle.lp_form.specs.Program.{LpView, coefficient, right_of}
-use Rattle.lp_form.specs.Solutions.{IsSolution}
-use Rattle.int_tableau.specs.Content.{Content, IsTableau}
+use Rattle.lp_form.specs.Program.{LpView, coefficient}
+use Rattle.int_tableau.specs.Content.{Content}
 use Rattle.int_tableau.specs.Start.{start_entry}
 use Rattle.bland_simplex.proofs.Lowering.{weight_over}
 use Rattle.bland_simplex.proofs.StartEntries.{phase_weight, phase_artificial, weight_program, weight_right, entry_program, entry_right, entry_own, entry_apart}
@@ -28,7 +25,7 @@ use Rattle.bland_simplex.proofs.TurnSteps.{solution_of}
 use Rattle.bland_simplex.proofs.Wholes.{width, side, whole_of}
 use Rattle.bland_simplex.specs.Answer.{HasSolution}
 use Rattle.bland_simplex.specs.Multipliers.{IsStuck, AreMultipliers, ShowEmpty, times_column}
-use Rattle.bland_simplex.specs.Open.{IsOpen, IsOpenFor, IsProgram}
+use Rattle.bland_simplex.specs.Open.{IsProgram}
 use Rattle.bland_simplex.specs.Ready.{IsUnderWay, IsReady}
 
 opposite_of : (a b : ℤ) → a +ℤ b ≡ pos 0 → a ≡ neg_ℤ b

@@ -2,6 +2,7 @@ pub mod Beginning
 pub mod Counting
 pub mod Emptiness
 pub mod Lowering
+pub mod Optima
 pub mod Orders
 pub mod PhaseRows
 pub mod Ratios

@@ -116,10 +116,10 @@ module _ (lp : LpView) where
   }
 
   -- The payoff of a column in a weighting.
-  abbrev weighted : ℤ → ℤ → ℕ → ℤ
+  abbrev pub weighted : ℤ → ℤ → ℕ → ℤ
   weighted a b j = a *ℤ payoff_of One lp j +ℤ b *ℤ payoff_of Two lp j
 
-  weighted_sum : (a b : ℤ) (x : ℕ → ℤ) → sum_to lp.cols (λ j. weighted a b j *ℤ x j) ≡ a *ℤ paid lp One x +ℤ b *ℤ paid lp Two x
+  pub weighted_sum : (a b : ℤ) (x : ℕ → ℤ) → sum_to lp.cols (λ j. weighted a b j *ℤ x j) ≡ a *ℤ paid lp One x +ℤ b *ℤ paid lp Two x
   weighted_sum a b x =
       sum_to-same lp.cols (λ j. weighted a b j *ℤ x j) (λ j. a *ℤ (payoff_of One lp j *ℤ x j) +ℤ b *ℤ (payoff_of Two lp j *ℤ x j)) (λ j l. parted a b (payoff_of One lp j) (payoff_of Two lp j) (x j))
       ∙ (sum_to-add lp.cols (λ j. a *ℤ (payoff_of One lp j *ℤ x j)) (λ j. b *ℤ (payoff_of Two lp j *ℤ x j))

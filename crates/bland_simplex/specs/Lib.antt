@@ -1,5 +1,6 @@
 pub mod Answer
 pub mod Driven
+pub mod Greatest
 pub mod Improving
 pub mod Lowering
 pub mod Multipliers

@@ -2,6 +2,7 @@ ghost use Rattle.std.specs.Prelude.{◌≢◌, ◌↔◌, IsTrue, ◌<◌, Match
 ghost use Rattle.lp_form.specs.Solutions.{HasBoundedPayoffs};
 ghost use Rattle.int_tableau.specs.declared.ends.PivotEnd.TheVariants.{NotBuilt};
 ghost use Rattle.bland_simplex.specs.Open.{IsOpen};
+ghost use Rattle.bland_simplex.specs.Greatest.{IsGreatest};
 ghost use Rattle.bland_simplex.specs.Improving.{Improves, IsOptimal};
 ghost use Rattle.bland_simplex.specs.Order.{IsFirst};
 ghost use Rattle.bland_simplex.specs.Ready.{IsReady};
@@ -51,6 +52,7 @@ pub fn best<T: Tableau>(lp: &Lp, table: &mut T, dir: &Dir) -> Result<(), PivotEn
     requires ready { IsReady lp.now (T.content table.old) }
     requires bounded { HasBoundedPayoffs lp.now }
     ensures ready { OnOk result (IsReady lp.now (T.content table.new)) }
+    ensures greatest { OnOk result (IsGreatest lp.now (T.content table.new) dir.now) }
     ensures optimal { OnOk result (IsOptimal (T.content table.new) (length lp.now.rows) lp.now.cols dir.now) }
     ensures steps { OnOk result (StepsLead (IsTurning lp.now dir.now) (T.content table.old) (T.content table.new)) }
     ensures end { IfErr result (StepsEnd (IsTurning lp.now dir.now) (T.content table.old) (T.content table.new)) }

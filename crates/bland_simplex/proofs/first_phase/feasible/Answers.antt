@@ -2,7 +2,6 @@
 use Rattle.bland_simplex.proofs.Emptiness.{stuck_shows, shown_empty, ready_solution}
 use Rattle.bland_simplex.proofs.Runs.{leads_on, ends_on, short_ends, error_named}
 use Rattle.bland_simplex.proofs.Beginning.{way_of_start}
-use Rattle.std.proofs.Common.{◌≡◌}
 use Rattle.int_tableau.specs.declared.ends.PivotEnd.TheVariants.{NoMemory}
 use Rattle.bland_simplex.specs.Steps.{StepsEnd, stays, IsFirstStep}
 use Rattle.bland_simplex.proofs.first_phase.feasible.Goals as goal

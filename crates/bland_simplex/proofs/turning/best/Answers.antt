@@ -1,4 +1,5 @@
 -- A turn is a step of Bland's rule by the ratio rule.
+use Rattle.bland_simplex.proofs.Optima.{greatest}
 use Rattle.bland_simplex.proofs.Runs.{pivot_ends, error_named}
 use Rattle.bland_simplex.proofs.TurnSteps.{turning_ratio, turning_falls, ready_after}
 use Rattle.bland_simplex.specs.Steps.{StepsEnd, stays, goes, IsTurning}
@@ -41,3 +42,8 @@ returns-in_err-pivot-clause-end g c =
     let step : IsTurning c.args.lp.now c.args.dir.now (g.T.Tableau.content c.loop-col.table) c.leaving-row.result c.in-Some.col = record { ready = c.loop-col.invariant.0; in_columns = first.offered_is; improves = first.may; ratio = leaves.ratio } in
     error_named _ _ (StepsEnd (IsTurning c.args.lp.now c.args.dir.now) (g.T.Tableau.content c.args.table.now) (g.T.Tableau.content c.pivot.new.self)) c.from_residual.ensures.1
     (pivot_ends (g.T.Tableau.content c.args.table.now) (g.T.Tableau.content c.loop-col.table) (g.T.Tableau.content c.pivot.new.self) c.leaving-row.result c.in-Some.col c.in_err-pivot.field-0.0 c.loop-col.invariant.1 step c.in_err-pivot.ensures.answer)
+
+pub returns-clause-greatest : goal.returns-clause-greatest
+returns-clause-greatest g c =
+    let optimal = rw (c.of-shape.ensures.rows, c.of-shape.ensures.cols) at c.in_default.ensures in
+    greatest c.args.lp.now (g.T.Tableau.content c.loop-col.table) c.loop-col.invariant.0 c.args.dir.now optimal
