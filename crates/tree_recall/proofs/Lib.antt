@@ -1,2 +1,6 @@
+pub mod Kids
 pub mod Order
+pub mod OwnSequences
 pub mod Progress
+pub mod Told
+pub mod ToldSteps

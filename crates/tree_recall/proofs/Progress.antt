@@ -16,11 +16,12 @@ use Rattle.corr_game.specs.declared.nodes.SetId.{SetId}
 use Rattle.corr_game.specs.declared.nodes.SetInfo.{SetInfo}
 use Rattle.corr_game.specs.declared.sides.Side.{Side}
 use Rattle.corr_game.specs.declared.sides.Side.TheVariants.{One, Two}
-use Rattle.corr_game.specs.Node.{set_at, same_side}
+use Rattle.corr_game.specs.Node.{kids_of, set_at, same_side}
 use Rattle.corr_game.specs.Sets.{AreInOrder}
 use Rattle.corr_game.specs.Game.{GameView, IsGame, sets_of}
 use Rattle.tree_recall.specs.declared.recalls.Met.{Met}
-use Rattle.tree_recall.specs.LastMove.{IsMoveBelow, AreEarlier, IsEither, IsKeptOrMove, IsRecallOf, moves_of}
+use Rattle.tree_recall.specs.OwnSequence.{HasRecall}
+use Rattle.tree_recall.specs.LastMove.{RecalledView, IsMoveBelow, AreEarlier, AreOfTree, IsHandedOn, IsRecallOf, moves_of}
 use Rattle.tree_recall.proofs.Order.{next-in_order}
 
 abbrev pub Move : Type 0
@@ -40,22 +41,13 @@ IsMoveBelow-weaker : (a b : ℕ) (sets : List SetInfo) (move : Option Move) → 
 IsMoveBelow-weaker a b sets None h m = tt
 IsMoveBelow-weaker a b sets (Some move) h m = (omega (arith, m.0), m.1)
 
--- entries that were kept or replaced by a move that holds
-All-either : (bound : ℕ) (sets : List SetInfo) (old new : List (Option Move)) (last : Option Move) → length new ≡ length old → All (IsMoveBelow bound sets) old → IsMoveBelow bound sets last
-    → ((k : ℕ) (none : Option Move) → IsEither last (get_or old k none) (get_or new k none)) → All (IsMoveBelow bound sets) new
-All-either bound sets old new last count all move each k d h =
-    let P = IsMoveBelow bound sets in
-    elim (each k d) [ inl kept ↦ subst P (sym kept) (all k d (omega (arith, count))) | inr replaced ↦ subst P (sym replaced) move ]
-
-All-moves : (bound actions : ℕ) (sets : List SetInfo) (set : SetId) (old new : List (Option Move)) → length new ≡ length old → All (IsMoveBelow bound sets) old
-    → set.0 < bound → ((info : SetInfo) → slice_get sets set.0 ≡ Some info → actions ≡ info.actions)
-    → ((k : ℕ) (none : Option Move) → IsKeptOrMove set actions (get_or old k none) (get_or new k none)) → All (IsMoveBelow bound sets) new
-All-moves bound actions sets set old new count all low fits each k d h =
-    let P = IsMoveBelow bound sets in
-    elim (each k d) [
-      | inl kept ↦ subst P (sym kept) (all k d (omega (arith, count)))
-      | inr moved ↦ subst P (sym moved.2) (low, λ info found. omega (arith, moved.1, fits info found))
-    ]
+-- what holds of every entry and of all that kids are given holds of every entry after
+All-handed : (P : Option Move → Type 0) (kids : List ℕ) (given : ℕ → Option Move) (old new : List (Option Move)) → length new ≡ length old → All P old → ((action : ℕ) → action < length kids → P (given action))
+    → ((k : ℕ) (none : Option Move) → IsHandedOn kids given (length kids) k (get_or old k none) (get_or new k none)) → All P new
+All-handed P kids given old new count all gift each k d h = elim (each k d) [
+  | inl handed ↦ subst P (sym handed.3) (gift handed.0 handed.1)
+  | inr kept ↦ subst P (sym kept.1) (all k d (omega (arith, count)))
+]
 
 -- an element of a list with one more at its end
 pub slice_get-push : {X : Type 0} (xs : List X) (y x : X) (k : ℕ) → slice_get (xs ++ y ∷ []) k ≡ Some x → (slice_get xs k ≡ Some x) ⊎ ((k ≡ length xs) × (y ≡ x))
@@ -75,7 +67,7 @@ AreEarlier-push sets moves last all here set found h =
 -- a node that isn't of this player passes its own last move on
 pub passed_on : (side : Side) (g : GameView) (n : ℕ) (node : Node) (above new : List (Option Move)) (met : List Met) (last : Option Move) → IsProgress side g n above met → n < length g.nodes
     → slice_get g.nodes n ≡ Some node → set_at side node ≡ None → last ≡ get_or above n last → length new ≡ length above
-    → ((k : ℕ) (none : Option Move) → IsEither last (get_or above k none) (get_or new k none)) → IsProgress side g (n + 1) new met
+    → ((k : ℕ) (none : Option Move) → IsHandedOn (kids_of node) (λ _. last) (length (kids_of node)) k (get_or above k none) (get_or new k none)) → IsProgress side g (n + 1) new met
 passed_on side g n node above new met last p low h other read count each =
     let order = next-in_order side (length met) g.nodes n (length (sets_of side g)) node h p.in_order in
     let P = IsMoveBelow (length met) (sets_of side g) in
@@ -83,7 +75,7 @@ passed_on side g n node above new met last p low h other read count each =
     record {
       room = omega (arith, count, p.room);
       in_order = rw other at order.1;
-      moves = All-either (length met) (sets_of side g) above new last count p.moves move each;
+      moves = All-handed P (kids_of node) (λ _. last) above new count p.moves (λ action low. move) each;
       earlier = p.earlier;
     }
 
@@ -119,7 +111,7 @@ other_set side mover set kids h = rw h refl
 moved_with : (side : Side) (g : GameView) → IsGame g → (n : ℕ) (set : SetId) (kids : List ℕ) (above new : List (Option Move)) (met more : List Met) → IsProgress side g n above met
     → slice_get g.nodes n ≡ Some (Choice side set kids) → length new ≡ length above
     → length met ≤ length more → set.0 < length more → max (length met) (set.0 + 1) ≡ length more → AreEarlier (sets_of side g) (map last_of more)
-    → ((k : ℕ) (none : Option Move) → IsKeptOrMove set (length kids) (get_or above k none) (get_or new k none)) → IsProgress side g (n + 1) new more
+    → ((k : ℕ) (none : Option Move) → IsHandedOn kids (λ action. Some (set, action)) (length kids) k (get_or above k none) (get_or new k none)) → IsProgress side g (n + 1) new more
 moved_with side g rules n set kids above new met more p h count grown low most earlier each =
     let order = rw (same_side-refl side) at (next-in_order side (length met) g.nodes n (length (sets_of side g)) (Choice side set kids) h p.in_order) in
     let Q : ℕ → Type 0 = λ m. AreInOrder side m (drop (n + 1) g.nodes) (length (sets_of side g)) in
@@ -127,8 +119,9 @@ moved_with side g rules n set kids above new met more p h count grown low most e
     record {
       room = omega (arith, count, p.room);
       in_order = subst Q most order.1;
-      moves = All-moves (length more) (length kids) (sets_of side g) set above new count
-          (λ k d l. IsMoveBelow-weaker (length met) (length more) (sets_of side g) (get_or above k d) grown (p.moves k d l)) low node.1 each;
+      moves = All-handed (IsMoveBelow (length more) (sets_of side g)) kids (λ action. Some (set, action)) above new count
+          (λ k d l. IsMoveBelow-weaker (length met) (length more) (sets_of side g) (get_or above k d) grown (p.moves k d l))
+          (λ action small. (low, λ info at. omega (arith, small, node.1 info at))) each;
       earlier = earlier;
     }
 
@@ -136,7 +129,7 @@ moved_with side g rules n set kids above new met more p h count grown low most e
 pub moved_on : (side : Side) (g : GameView) → IsGame g → (n : ℕ) (set : SetId) (kids : List ℕ) (above new : List (Option Move)) (met more : List Met) (node : Met) → IsProgress side g n above met → n < length g.nodes
     → slice_get g.nodes n ≡ Some (Choice side set kids) → node.last ≡ get_or above n node.last → length new ≡ length above
     → (set.0 < length met → more ≡ met) → (set.0 ≡ length met → more ≡ met ++ node ∷ [])
-    → ((k : ℕ) (none : Option Move) → IsKeptOrMove set (length kids) (get_or above k none) (get_or new k none)) → IsProgress side g (n + 1) new more
+    → ((k : ℕ) (none : Option Move) → IsHandedOn kids (λ action. Some (set, action)) (length kids) k (get_or above k none) (get_or new k none)) → IsProgress side g (n + 1) new more
 moved_on side g rules n set kids above new met more node p low h read count known added each =
     let here = met_or_next side g n set kids above met p h in
     let P = IsMoveBelow (length met) (sets_of side g) in
@@ -175,14 +168,24 @@ all_met side g n above met p h =
     let Q : List Node → Type 0 = λ nodes. AreInOrder side (length met) nodes (length (sets_of side g)) in
     subst Q (drop_all n g.nodes h) p.in_order
 
+-- what is known of one player's moves
+pub record IsSideOf (side : Side) (g : GameView) (moves : List (Option Move)) : Type 0 where
+  pub count : length moves ≡ length (sets_of side g)
+  pub earlier : AreEarlier (sets_of side g) moves
+  pub of_tree : AreOfTree side g moves
+  pub perfect : HasRecall g side
+
 -- the answers for both players are those of the game
-pub recall_of : (g : GameView) (one two : List Met) → length one ≡ length g.one → length two ≡ length g.two → AreEarlier g.one (map last_of one) → AreEarlier g.two (map last_of two)
-    → IsRecallOf g (record { one = map last_of one; two = map last_of two })
-recall_of g one two count_one count_two earlier_one earlier_two = record {
-  per_set = λ side. elim side as (λ s. length (moves_of s (record { one = map last_of one; two = map last_of two })) ≡ length (sets_of s g))
-      [ One ↦ length-map one last_of ∙ count_one | Two ↦ length-map two last_of ∙ count_two ];
-  earlier = λ side. elim side as (λ s. AreEarlier (sets_of s g) (moves_of s (record { one = map last_of one; two = map last_of two }))) [ One ↦ earlier_one | Two ↦ earlier_two ];
-}
+pub recall_of : (g : GameView) (one two : List (Option Move)) → IsSideOf One g one → IsSideOf Two g two → IsRecallOf g (record { one = one; two = two })
+recall_of g one two h k =
+    let r : RecalledView = record { one = one; two = two } in
+    let side_of : (side : Side) → IsSideOf side g (moves_of side r) = λ side. elim side as (λ s. IsSideOf s g (moves_of s r)) [ One ↦ h | Two ↦ k ] in
+    record {
+      per_set = λ side. (side_of side).count;
+      earlier = λ side. (side_of side).earlier;
+      of_tree = λ side. (side_of side).of_tree;
+      perfect = λ side. (side_of side).perfect;
+    }
 
 -- an error that was handed on keeps what was said of it
 pub error_named : {A E : Type 0} (r : Result A E) (x : E) (P : E → Type 0) → IsErrAnd r (λ e. e ≡ x) → P x → IfErr r P

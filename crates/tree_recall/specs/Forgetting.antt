@@ -1,5 +1,5 @@
 -- Where a player forgets: at a set of the game.
-use Rattle.std.specs.Prelude.{ℕ, ◌<◌, length}
+use Rattle.std.specs.Prelude.{◌<◌, length}
 use Rattle.corr_game.specs.Game.{GameView, sets_of}
 use Rattle.tree_recall.specs.declared.recalls.RecallRefusal.{RecallRefusal}
 use Rattle.tree_recall.specs.declared.recalls.RecallRefusal.TheVariants.{Forgets, NoMemory}

@@ -1,2 +1,4 @@
-pub mod LastMove
 pub mod Forgetting
+pub mod LastMove
+pub mod OwnSequence
+pub mod Tree

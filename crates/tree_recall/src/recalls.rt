@@ -1,8 +1,10 @@
 ghost use Rattle.std.specs.Prelude.{◌≡◌, ◌<◌, ◌≤◌, ◌++◌, ◌∷◌, [], ℕ, length, map, slice_get, slice_index_or, Some, All, IfErr, IfOk, Option};
 ghost use Rattle.corr_game.specs.declared.nodes.SetId.{SetId};
 ghost use Rattle.corr_game.specs.Game.{GameView, sets_of};
+ghost use Rattle.tree_recall.specs.declared.recalls.Met.{Met};
 ghost use Rattle.tree_recall.specs.Forgetting.{NamesSet};
-ghost use Rattle.tree_recall.specs.LastMove.{IsRecallOf, AreEarlier, IsEither, IsKeptOrMove, moves_of};
+ghost use Rattle.tree_recall.specs.OwnSequence.{HasRecall};
+ghost use Rattle.tree_recall.specs.LastMove.{IsRecallOf, AreEarlier, AreOfTree, IsHandedOn, moves_of};
 
 use corr_game::{Game, Node, NodeList, SetId, Side};
 use std::alloc::{AllocError, AllocFailed, Global};
@@ -119,6 +121,8 @@ fn side_recall(alloc: Global, game: &Game, side: Side) -> Result<Vec<Met>, Recal
     ensures count { IfOk result (λ met. length met.items ≡ length (sets_of side game.now)) }
     ensures earlier { IfOk result
         (λ met. AreEarlier (sets_of side game.now) (map (λ m. m.last) met.items)) }
+    ensures of_tree { IfOk result (λ met. AreOfTree side game.now (map (λ m. m.last) met.items)) }
+    ensures perfect { IfOk result (λ _. HasRecall game.now side) }
     ensures named { IfErr result (NamesSet game.now) }
 {
     let mut above: Vec<Option<Move>> = vec![in alloc; None; game.len() as usize]?;
@@ -159,6 +163,8 @@ fn meet(met: &mut Vec<Met>, side: Side, set: SetId, node: Met) -> Result<(), Rec
     ensures known { IfOk result (λ _. set.0 < length met.old.items → met.new.items ≡ met.old.items) }
     ensures added { IfOk result
         (λ _. set.0 ≡ length met.old.items → met.new.items ≡ met.old.items ++ node ∷ []) }
+    ensures alike { IfOk result
+        (λ _. (known : Met) → slice_get met.old.items set.0 ≡ Some known → known.last ≡ node.last) }
     ensures named { IfErr result (λ refusal. (g : GameView) → set.0 < length (sets_of side g) → NamesSet g refusal) }
 {
     let Some(known) = met.get(set.0 as usize) else {
@@ -181,7 +187,7 @@ fn meet(met: &mut Vec<Met>, side: Side, set: SetId, node: Met) -> Result<(), Rec
 fn pass_on(above: &mut Vec<Option<Move>>, kids: &NodeList, last: Option<Move>)
     requires { All (λ kid. kid < length above.old.items) kids.now }
     ensures count { length above.new.items ≡ length above.old.items }
-    ensures each { (k : ℕ) (none : Option (SetId × ℕ)) → IsEither last (slice_index_or above.old.items k none) (slice_index_or above.new.items k none) }
+    ensures each { (k : ℕ) (none : Option (SetId × ℕ)) → IsHandedOn kids.now (λ _. last) (length kids.now) k (slice_index_or above.old.items k none) (slice_index_or above.new.items k none) }
 {
     for k in 0..kids.len() {
         above[*kids.at(k) as usize] = last;
@@ -193,7 +199,7 @@ fn pass_moves(above: &mut Vec<Option<Move>>, kids: &NodeList, set: SetId)
     requires behind { All (λ kid. kid < length above.old.items) kids.now }
     requires few { length kids.now ≤ 64 }
     ensures count { length above.new.items ≡ length above.old.items }
-    ensures each { (k : ℕ) (none : Option (SetId × ℕ)) → IsKeptOrMove set (length kids.now) (slice_index_or above.old.items k none) (slice_index_or above.new.items k none) }
+    ensures each { (k : ℕ) (none : Option (SetId × ℕ)) → IsHandedOn kids.now (λ action. Some (set, action)) (length kids.now) k (slice_index_or above.old.items k none) (slice_index_or above.new.items k none) }
 {
     for k in 0..kids.len() {
         above[*kids.at(k) as usize] = Some((set, k as u32));
