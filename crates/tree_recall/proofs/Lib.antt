@@ -1,3 +1,4 @@
+pub mod HandedDown
 pub mod Kids
 pub mod Order
 pub mod OwnSequences

@@ -16,14 +16,15 @@ use Rattle.tree_recall.specs.OwnSequence.{IsLastAt}
 use Rattle.tree_recall.specs.LastMove.{IsHandedOn}
 use Rattle.tree_recall.proofs.OwnSequences.{last_own, last_other}
 use Rattle.tree_recall.proofs.Progress.{last_of, same_side-refl}
-use Rattle.tree_recall.proofs.Told.{IsTold, Move, told_here, told_next}
+use Rattle.tree_recall.proofs.Told.{IsTold, Move, sets_next}
+use Rattle.tree_recall.proofs.HandedDown.{down_here, down_next}
 
 -- an entry read is the last own move at node n
 read_here : (side : Side) (g : GameView) → IsGame g → (n : ℕ) (above moves : List (Option Move)) (last : Option Move) → IsTold side g n above moves → n < length g.nodes → length above ≡ length g.nodes
     → last ≡ get_or above n last → IsLastAt g side n last
 read_here side g rules n above moves last t low room read =
     let P : Option Move → Type 0 = IsLastAt g side n in
-    subst P (get_or_default above n None last (omega arith) ∙ sym read) (told_here side g rules n above moves t low)
+    subst P (get_or_default above n None last (omega arith) ∙ sym read) (down_here (λ k x. IsLastAt g side k x) None g rules n above t.down low)
 
 pub told_passed : (side : Side) (g : GameView) → IsGame g → (n : ℕ) (node : Node) (above new moves : List (Option Move)) (last : Option Move) → IsTold side g n above moves → n < length g.nodes → length above ≡ length g.nodes
     → slice_get g.nodes n ≡ Some node → set_at side node ≡ None → last ≡ get_or above n last
@@ -31,11 +32,10 @@ pub told_passed : (side : Side) (g : GameView) → IsGame g → (n : ℕ) (node 
 told_passed side g rules n node above new moves last t low room h other read each =
     let here = read_here side g rules n above moves last t low room read in
     let apart : set_of g side n ≡ None = rw h other in
-    told_next side g rules n node h (λ _. last) above new moves moves t
-    (λ action k e. last_other g side n action k last here apart e)
-    (λ set x e. e)
-    (λ set e. absurd (cc))
-    each
+    record {
+      down = down_next g rules n node h (λ _. last) (λ k x. IsLastAt g side k x) None above new t.down (λ action k e. last_other g side n action k last here apart e) (λ k. each k None);
+      sets = sets_next side g n above moves moves t (λ set x e. e) (λ set e. absurd (cc));
+    }
 
 still : {X : Type 0} (xs : List X) (y x : X) (k : ℕ) → slice_get xs k ≡ Some x → slice_get (xs ++ y ∷ []) k ≡ Some x
 still [] y x k h = absurd (cc)
@@ -73,8 +73,8 @@ told_moved side g rules n set kids above new met more node t low room h read ord
     let here = read_here side g rules n above (map last_of met) node.last t low room read in
     let own : set_of g side n ≡ Some set.0 = rw (h, same_side-refl side) refl in
     let kept = keeps set met more node order known added alike in
-    told_next side g rules n (Choice side set kids) h (λ action. Some (set, action)) above new (map last_of met) (map last_of more) t
-    (λ action k e. last_own g side n action k set node.last here own e)
-    kept.0
-    (λ k e. (let same : set.0 ≡ k = cc in rw (← same) (node.last, kept.1, here)))
-    each
+    record {
+      down = down_next g rules n (Choice side set kids) h (λ action. Some (set, action)) (λ k x. IsLastAt g side k x) None above new t.down
+          (λ action k e. last_own g side n action k set node.last here own e) (λ k. each k None);
+      sets = sets_next side g n above (map last_of met) (map last_of more) t kept.0 (λ k e. (let same : set.0 ≡ k = cc in rw (← same) (node.last, kept.1, here)));
+    }

@@ -28,7 +28,7 @@ abbrev pub AreEarlier : List SetInfo → List (Option (SetId × ℕ)) → Type 0
 AreEarlier sets moves = (set : ℕ) (last : Option (SetId × ℕ)) → slice_get moves set ≡ Some last → IsMoveBelow set sets last
 
 -- what the first `count` kids of a node are given, by action, each has; any other node has what it had
-abbrev pub IsHandedOn : List ℕ → (ℕ → Option (SetId × ℕ)) → ℕ → ℕ → Option (SetId × ℕ) → Option (SetId × ℕ) → Type 0
+abbrev pub IsHandedOn : {X : Type 0} → List ℕ → (ℕ → X) → ℕ → ℕ → X → X → Type 0
 IsHandedOn kids given count n old new =
     ((action : ℕ) × (action < count) × (slice_index kids action ≡ n) × (new ≡ given action))
     ⊎ (((action : ℕ) → action < count → slice_index kids action ≡ n → ⊥) × (new ≡ old))
