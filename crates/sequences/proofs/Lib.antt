@@ -2,3 +2,4 @@ pub mod Adding
 pub mod Few
 pub mod Holding
 pub mod NodeSeqs
+pub mod Owned

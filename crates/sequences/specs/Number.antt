@@ -6,6 +6,8 @@ use Rattle.corr_game.specs.declared.nodes.SetInfo.{SetInfo}
 use Rattle.corr_game.specs.declared.sides.Side.{Side}
 use Rattle.corr_game.specs.declared.sides.Side.TheVariants.{One, Two}
 use Rattle.corr_game.specs.Game.{GameView, sets_of}
+use Rattle.tree_recall.specs.Tree.{set_of}
+use Rattle.tree_recall.specs.OwnSequence.{IsLastAt}
 use Rattle.sequences.specs.declared.places.Place.{Place}
 
 -- the place of each set, the last move of each sequence but the empty one, and the sequence of each node
@@ -80,11 +82,21 @@ pub record IsSide (v : SideView) : Type 0 where
   pub few : length v.lasts < 4096
   pub each_node : (n seq : ℕ) → slice_get v.nodes n ≡ Some seq → seq ≤ length v.lasts
 
--- one place per set, with as many actions, and one sequence per node
+-- at each node the number of the sequence with the last own move there
+abbrev pub AreAtNodes : Side → GameView → List Place → List ℕ → Type 0
+AreAtNodes side g places nodes = (n seq : ℕ) (last : Option (SetId × ℕ)) → slice_get nodes n ≡ Some seq → IsLastAt g side n last → HasNumber places last seq
+
+-- a set's own sequence is the one with the last own move at each of its nodes
+abbrev pub AreOwn : Side → GameView → List Place → Type 0
+AreOwn side g places = (n set : ℕ) (place : Place) (last : Option (SetId × ℕ)) → set_of g side n ≡ Some set → slice_get places set ≡ Some place → IsLastAt g side n last → HasNumber places last place.own
+
+-- one place per set, with as many actions, and one sequence per node; each is that of the last own move in the tree
 pub record IsSideOf (side : Side) (g : GameView) (v : SideView) : Type 0 where
   pub per_set : length v.places ≡ length (sets_of side g)
   pub same_actions : SameActions (sets_of side g) v.places
   pub per_node : length v.nodes ≡ length g.nodes
+  pub at_nodes : AreAtNodes side g v.places v.nodes
+  pub own_of_tree : AreOwn side g v.places
 
 -- the numbers are those of a game's sequences
 pub record IsSeqsOf (g : GameView) (s : SeqsView) : Type 0 where

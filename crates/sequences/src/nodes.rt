@@ -1,6 +1,7 @@
-ghost use Rattle.std.specs.Prelude.{◌≡◌, ◌<◌, ◌≤◌, ◌+◌, ◌⊎◌, ℕ, length, slice_index, All, IfOk};
+ghost use Rattle.std.specs.Prelude.{◌≡◌, ◌<◌, ◌≤◌, ◌+◌, ℕ, length, slice_index, All, IfOk};
 ghost use Rattle.corr_game.specs.Game.{sets_of};
-ghost use Rattle.sequences.specs.Number.{IsNumberingOf};
+ghost use Rattle.sequences.specs.Number.{AreAtNodes, IsNumberingOf};
+ghost use Rattle.tree_recall.specs.LastMove.{IsHandedOn};
 
 use crate::numbers::Numbers;
 use corr_game::{Game, Node, NodeList, Side};
@@ -17,6 +18,8 @@ pub fn node_seqs(
     ensures per_node { IfOk result (λ seqs. length seqs.items ≡ length game.now.nodes) }
     ensures in_range { IfOk result
         (λ seqs. All (λ seq. seq ≤ length numbers.now.lasts.items) seqs.items) }
+    ensures of_tree { IfOk result
+        (λ seqs. AreAtNodes side game.now numbers.now.places.items seqs.items) }
 {
     let mut seqs: Vec<u32> = vec![in alloc; 0; game.len() as usize]?;
     for n in 0..game.len() {
@@ -44,7 +47,7 @@ pub fn node_seqs(
 fn pass_on(seqs: &mut Vec<u32>, kids: &NodeList, seq: u32)
     requires { All (λ kid. kid < length seqs.old.items) kids.now }
     ensures count { length seqs.new.items ≡ length seqs.old.items }
-    ensures each { (k : ℕ) → (slice_index seqs.new.items k ≡ slice_index seqs.old.items k) ⊎ (slice_index seqs.new.items k ≡ seq) }
+    ensures each { (k : ℕ) → IsHandedOn kids.now (λ _. seq) (length kids.now) k (slice_index seqs.old.items k) (slice_index seqs.new.items k) }
 {
     for k in 0..kids.len() {
         seqs[*kids.at(k) as usize] = seq;
@@ -56,7 +59,7 @@ fn pass_moves(seqs: &mut Vec<u32>, kids: &NodeList, first: u32)
     requires behind { All (λ kid. kid < length seqs.old.items) kids.now }
     requires few { first + length kids.now ≤ 4096 }
     ensures count { length seqs.new.items ≡ length seqs.old.items }
-    ensures each { (k : ℕ) → (slice_index seqs.new.items k ≡ slice_index seqs.old.items k) ⊎ ((first ≤ slice_index seqs.new.items k) × (slice_index seqs.new.items k < first + length kids.now)) }
+    ensures each { (k : ℕ) → IsHandedOn kids.now (λ action. first + action) (length kids.now) k (slice_index seqs.old.items k) (slice_index seqs.new.items k) }
 {
     for k in 0..kids.len() {
         seqs[*kids.at(k) as usize] = first + k as u32;

@@ -2,7 +2,7 @@ ghost use Rattle.std.specs.Prelude.{◌≡◌, ◌++◌, ℕ, length, map, IfOk}
 ghost use Rattle.std.specs.List.{range_with_len};
 ghost use Rattle.corr_game.specs.Game.{sets_of};
 ghost use Rattle.tree_recall.specs.LastMove.{IsRecallOf};
-ghost use Rattle.sequences.specs.Number.{HasNumber, IsNumberingOf, IsTaken};
+ghost use Rattle.sequences.specs.Number.{AreOwn, HasNumber, IsNumberingOf, IsTaken};
 
 use crate::places::Place;
 use corr_game::{Game, Node, NodeList, SetId, Side};
@@ -26,8 +26,9 @@ pub fn number(
     side: Side,
 ) -> Result<Numbers, NoMemory>
     requires { IsRecallOf game.now recalled.now }
-    ensures { IfOk result
+    ensures numbering { IfOk result
         (λ made. IsNumberingOf (sets_of side game.now) made.places.items made.lasts.items) }
+    ensures own_of_tree { IfOk result (λ made. AreOwn side game.now made.places.items) }
 {
     let mut places: Vec<Place> = Vec::new(alloc);
     let mut lasts = Vec::new(alloc);

@@ -1,7 +1,7 @@
 -- Values that nodes hand down to their kids, from the root on. Before node n a fact of the tree holds of the root's value
 -- and of those of the kids of all nodes gone over, so of node n's. One node on it still does: the node's kids are kids of
 -- no other node, so each has what that node gives it, and no other value changes.
-use Rattle.std.proofs.Common.{◌≡◌, ℕ, ◌+◌, ◌<◌, List, Some, length, get_or, slice_get, slice_index, sym, subst, inl, inr, arith}
+use Rattle.std.proofs.Common.{◌≡◌, ℕ, ◌+◌, ◌<◌, ◌≤◌, List, Some, length, get_or, slice_get, slice_index, sym, subst, inl, inr, arith}
 use Rattle.std.proofs.lemmas.Bool.{cases_lt}
 use Rattle.std.proofs.lemmas.Option.{get_or_from_slice_get, slice_get-get_or, slice_get_within}
 use Rattle.corr_game.specs.declared.nodes.Node.{Node}
@@ -15,13 +15,17 @@ pub record IsDown {X : Type 0} (T : ℕ → X → Type 0) (none : X) (g : GameVi
   pub root : T 0 (get_or values 0 none)
   pub kids : (m action k : ℕ) → m < n → kid_of g m action ≡ Some k → T k (get_or values k none)
 
-pub down_here : {X : Type 0} (T : ℕ → X → Type 0) (none : X) (g : GameView) → IsGame g → (n : ℕ) (values : List X) → IsDown T none g n values → n < length g.nodes → T n (get_or values n none)
-down_here T none g rules n values d room = elim (cases_lt 0 n) [
+pub down_at : {X : Type 0} (T : ℕ → X → Type 0) (none : X) (g : GameView) → IsGame g → (n m : ℕ) (values : List X) → IsDown T none g n values → m ≤ n → m < length g.nodes → T m (get_or values m none)
+down_at T none g rules n m values d before room = elim (cases_lt 0 m) [
   | inl low ↦
-      let over = has_parent g rules n low room in
-      d.kids over.0 over.1 n (kid_below g rules over.0 over.1 n over.2).0 over.2
-  | inr root ↦ let same : n ≡ 0 = omega arith in rw same d.root
+      let over = has_parent g rules m low room in
+      let behind = kid_below g rules over.0 over.1 m over.2 in
+      d.kids over.0 over.1 m (omega (arith, behind.0)) over.2
+  | inr root ↦ let same : m ≡ 0 = omega arith in rw same d.root
 ]
+
+pub down_here : {X : Type 0} (T : ℕ → X → Type 0) (none : X) (g : GameView) → IsGame g → (n : ℕ) (values : List X) → IsDown T none g n values → n < length g.nodes → T n (get_or values n none)
+down_here T none g rules n values d room = down_at T none g rules n n values d (omega arith) room
 
 -- a kid of the node at n by its place among the kids
 kid_at : (g : GameView) (n : ℕ) (node : Node) → slice_get g.nodes n ≡ Some node → (action k : ℕ) → action < length (kids_of node) → slice_index (kids_of node) action ≡ k → kid_of g n action ≡ Some k
