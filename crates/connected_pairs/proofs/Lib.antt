@@ -1,3 +1,4 @@
 pub mod Indices
 pub mod Listing
+pub mod Marking
 pub mod RowEnds

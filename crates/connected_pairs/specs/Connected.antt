@@ -1,4 +1,5 @@
 -- Connected sets and relevant pairs of sequences (von Stengel and Forges 2008), by number.
+pub use Rattle.connected_pairs.specs.Table.{other}
 use Rattle.std.specs.Prelude.{◌≡◌, ℕ, ◌+◌, ◌*◌, ◌<◌, ◌≤◌, Bool, true, false, List, length, Option, Some, None, slice_get, slice_index_or}
 use Rattle.corr_game.specs.declared.nodes.SetId.{SetId}
 use Rattle.corr_game.specs.declared.sides.Side.{Side}
@@ -61,11 +62,6 @@ pub record IsPairs (p : PairsView) : Type 0 where
 -- the pairs are those of a game's sequences
 pub record IsPairsOf (g : GameView) (p : PairsView) : Type 0 where
   pub sides : (side : Side) → IsSideOf side g (side_of side p.seqs)
-
--- the other player
-abbrev pub other : Side → Side
-other One = Two
-other Two = One
 
 -- whether a set of this player is connected to one of the other
 abbrev pub touches : PairsView → Side → ℕ → ℕ → Bool
