@@ -1,3 +1,4 @@
+pub mod Closing
 pub mod Indices
 pub mod Listing
 pub mod Marking

@@ -1,10 +1,11 @@
 -- One pair more is gone over: a relevant one is put behind the others, so those keep their indices.
-use Rattle.std.proofs.Common.{◌≡◌, ℕ, ◌+◌, ◌*◌, ◌^◌, ◌<◌, ◌≤◌, Bool, true, false, List, [], ◌∷◌, ◌++◌, Option, Some, None, length, refl, sym, ap, ◌∙◌, inl, inr, arith}
+use Rattle.std.proofs.Common.{◌≡◌, ℕ, ◌+◌, ◌*◌, ◌^◌, ◌<◌, ◌≤◌, Bool, true, false, List, [], ◌∷◌, ◌++◌, Option, Some, None, zero, suc, slice_get, length, refl, sym, ap, ◌∙◌, inl, inr, arith}
 use Rattle.std.proofs.Math.Nat.{mul-le-mul_left}
 use Rattle.std.proofs.lemmas.List.{length_push}
 use Rattle.std.proofs.lemmas.Nat.{mul-add-lt}
+use Rattle.std.proofs.lemmas.Option.{slice_get_within}
 use Rattle.tree_recall.proofs.Progress.{slice_get-push}
-use Rattle.sequences.proofs.Adding.{still, pushed}
+use Rattle.sequences.proofs.Adding.{still, pushed, within}
 use Rattle.corr_game.specs.declared.sides.Side.TheVariants.{One, Two}
 use Rattle.corr_game.specs.Game.{GameView}
 use Rattle.sequences.specs.Number.{SeqsView, SideView, IsSide, IsSeqsOf, side_of, count_of}
@@ -32,6 +33,7 @@ none_listed s table = record {
   each_pair = λ k pair h. absurd (cc);
   each_index = λ k pair h. absurd (cc);
   each_place = λ k place h. absurd (cc);
+  in_order = λ j k a b e f less. absurd (cc);
 }
 
 pub list-relevant : (s : SeqsView) (table : List Bool) (count one two next : ℕ) (pairs : List (ℕ × ℕ)) (places : List (Option ℕ)) → IsListed s table count pairs places
@@ -52,6 +54,20 @@ list-relevant s table count one two next pairs places p low left e n related = r
     | inl there ↦ let at = p.each_place k place there in (at.0, at.1, at.2, grown s table pairs (one, two) at.0 place at.3)
     | inr end ↦ rw (← end.1) ((one, two), left, end.0 ∙ (p.all ∙ e), pushed pairs (one, two) (length pairs) refl)
   ];
+  in_order = λ j k a b f h less. elim (slice_get-push pairs (one, two) b k h) [
+    | inl there ↦
+        let room = slice_get_within pairs k b there in
+        elim (slice_get-push pairs (one, two) a j f) [
+          | inl before ↦ p.in_order j k a b before there less
+          | inr end ↦ absurd (omega (arith, end.0))
+        ]
+    | inr end ↦ elim (slice_get-push pairs (one, two) a j f) [
+      | inl before ↦
+          let low = slice_get_within places (a.0 * count_of s.two + a.1) (Some j) (p.each_index j a before) in
+          rw (← end.1) (omega (arith, low, p.all, e))
+      | inr last ↦ absurd (omega (arith, last.0, end.0))
+    ]
+  ];
 }
 
 pub list-other : (s : SeqsView) (table : List Bool) (count one two next : ℕ) (pairs : List (ℕ × ℕ)) (places : List (Option ℕ)) → IsListed s table count pairs places
@@ -66,6 +82,7 @@ list-other s table count one two next pairs places p left e n apart = record {
     | inl there ↦ p.each_place k place there
     | inr end ↦ rw (← end.1) ((one, two), left, end.0 ∙ (p.all ∙ e), apart)
   ];
+  in_order = p.in_order;
 }
 
 -- an index fits a u32
@@ -81,3 +98,19 @@ whole g s table pairs places one two of size listed = record {
   all_sets = rw ((of.sides One).per_set, (of.sides Two).per_set) size;
   listed = listed;
 }
+
+-- the first place is that of the empty sequences, and no pair stands before theirs
+first_at : (p : PairsView) → IsPairs p → (one two : ℕ) (place : Option ℕ) → one ≡ 0 → two ≡ 0 → IsPlaced p.seqs p.table p.pairs (one, two) place → slice_get p.pairs 0 ≡ Some (0, 0)
+first_at p rules one two None e f h =
+    let related : is_relevant p.seqs p.table one two ≡ true = rw e refl in
+    absurd (cc)
+first_at p rules one two (Some zero) e f h = rw (e, f) at h
+first_at p rules one two (Some (suc k)) e f h =
+    let first = within p.pairs 0 (omega (arith, slice_get_within p.pairs (suc k) (one, two) h)) in
+    absurd (omega (arith, f, ap (λ (x : ℕ). x * count_of p.seqs.two) e, rules.listed.in_order 0 (suc k) first.0 (one, two) first.1 h (omega arith)))
+
+pub first_pair : (p : PairsView) → IsPairs p → slice_get p.pairs 0 ≡ Some (0, 0)
+first_pair p rules =
+    let place = within p.places 0 (omega (arith, rules.listed.all)) in
+    let at = rules.listed.each_place 0 place.0 place.1 in
+    first_at p rules at.0.0 at.0.1 place.0 (omega (arith, at.2)) (omega (arith, at.2)) at.3

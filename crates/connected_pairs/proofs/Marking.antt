@@ -1,6 +1,6 @@
 -- Marking two sets changes no other two's entry. So once the nodes below a node are gone over, its set is marked with each
 -- of the other player's sets that has a node there, and once all nodes are, the marked sets are the connected ones.
-use Rattle.std.proofs.Common.{◌≡◌, ◌⊎◌, ◌↔◌, ℕ, ◌+◌, ◌*◌, ◌/◌, ◌%◌, ◌<◌, ◌≤◌, Bool, true, false, List, Some, None, length, max, get_or, set as set_at, slice_get, slice_index_or, refl, sym, ap, ◌∙◌, inl, inr, arith}
+use Rattle.std.proofs.Common.{◌≡◌, ◌⊎◌, ℕ, ◌+◌, ◌*◌, ◌/◌, ◌%◌, ◌<◌, ◌≤◌, Bool, true, false, List, Some, None, length, max, set as set_at, refl, sym, ap, ◌∙◌, inl, inr, arith}
 use Rattle.std.proofs.lemmas.Bool.{cases_eq, cases_lt}
 use Rattle.std.proofs.lemmas.List.{get_or-set_same, get_or-set_other}
 use Rattle.std.proofs.lemmas.Nat.{mul-add-lt, div-mul-add, mod-mul-add}
@@ -10,7 +10,7 @@ use Rattle.corr_game.specs.Node.{same_side}
 use Rattle.corr_game.specs.Preorder.{end_of}
 use Rattle.corr_game.specs.Game.{GameView, IsGame, sets_of}
 use Rattle.tree_recall.specs.Tree.{set_of, IsAbove}
-use Rattle.tree_recall.proofs.Kids.{above_within, within_above, set_node}
+use Rattle.tree_recall.proofs.Kids.{above_within, within_above}
 use Rattle.connected_pairs.specs.Table.{AreConnected, AreSets, HasNodeIn, IsMarked, IsMarkedBelow, IsTable, of_side, other}
 
 -- two entries at one index are the same two sets'

@@ -1,10 +1,11 @@
 -- Connected sets and relevant pairs of sequences (von Stengel and Forges 2008), by number.
-pub use Rattle.connected_pairs.specs.Table.{other}
-use Rattle.std.specs.Prelude.{◌≡◌, ℕ, ◌+◌, ◌*◌, ◌<◌, ◌≤◌, Bool, true, false, List, length, Option, Some, None, slice_get, slice_index_or}
+pub use Rattle.connected_pairs.specs.Table.{AreConnected, other}
+use Rattle.std.specs.Prelude.{◌≡◌, ◌↔◌, ℕ, ◌+◌, ◌*◌, ◌<◌, ◌≤◌, Bool, true, false, List, length, Option, Some, None, slice_get, slice_index_or}
 use Rattle.corr_game.specs.declared.nodes.SetId.{SetId}
 use Rattle.corr_game.specs.declared.sides.Side.{Side}
 use Rattle.corr_game.specs.declared.sides.Side.TheVariants.{One, Two}
 use Rattle.corr_game.specs.Game.{GameView}
+use Rattle.sequences.specs.declared.places.Place.{Place}
 use Rattle.sequences.specs.Number.{SeqsView, SideView, IsOwn, IsSide, IsSideOf, count_of, last_of, side_of}
 
 -- the sequences, whether two sets are connected, the relevant pairs in order, and each pair's index among them
@@ -45,23 +46,20 @@ IsPlaced s table pairs pair (Some k) = slice_get pairs k ≡ Some pair
 abbrev pub IsPlaceAt : SeqsView → List Bool → List (ℕ × ℕ) → ℕ → Option ℕ → Type 0
 IsPlaceAt s table pairs k place = (pair : ℕ × ℕ) × (pair.1 < count_of s.two) × (k ≡ pair.0 * count_of s.two + pair.1) × IsPlaced s table pairs pair place
 
--- the pairs and places that were gone over, `count` of them
+-- the pairs and places that were gone over, `count` of them: the pairs stand row by row
 pub record IsListed (s : SeqsView) (table : List Bool) (count : ℕ) (pairs : List (ℕ × ℕ)) (places : List (Option ℕ)) : Type 0 where
   pub all : length places ≡ count
   pub at_most : length pairs ≤ count
   pub each_pair : (k : ℕ) (pair : ℕ × ℕ) → slice_get pairs k ≡ Some pair → IsPair s table pair
   pub each_index : (k : ℕ) (pair : ℕ × ℕ) → slice_get pairs k ≡ Some pair → slice_get places (pair.0 * count_of s.two + pair.1) ≡ Some (Some k)
   pub each_place : (k : ℕ) (place : Option ℕ) → slice_get places k ≡ Some place → IsPlaceAt s table pairs k place
+  pub in_order : (j k : ℕ) (a b : ℕ × ℕ) → slice_get pairs j ≡ Some a → slice_get pairs k ≡ Some b → j < k → a.0 * count_of s.two + a.1 < b.0 * count_of s.two + b.1
 
 -- the rules of the table, the list and the indices
 pub record IsPairs (p : PairsView) : Type 0 where
   pub sides : (side : Side) → IsSide (side_of side p.seqs)
   pub all_sets : length p.table ≡ length p.seqs.one.places * length p.seqs.two.places
   pub listed : IsListed p.seqs p.table (count_of p.seqs.one * count_of p.seqs.two) p.pairs p.places
-
--- the pairs are those of a game's sequences
-pub record IsPairsOf (g : GameView) (p : PairsView) : Type 0 where
-  pub sides : (side : Side) → IsSideOf side g (side_of side p.seqs)
 
 -- whether a set of this player is connected to one of the other
 abbrev pub touches : PairsView → Side → ℕ → ℕ → Bool
@@ -77,3 +75,20 @@ IsTouched p side set (Some move) = touches p side move.0.0 set ≡ true
 pub data IsPrefix (v : SideView) (part : ℕ) : ℕ → Type 0 where
   itself : IsPrefix v part part
   longer : (seq own : ℕ) (move : SetId × ℕ) → last_of v seq ≡ Some move → IsOwn v move.0.0 own → IsPrefix v part own → IsPrefix v part seq
+
+-- the table says of each two sets whether they are connected in the tree
+abbrev pub TellsConnected : GameView → PairsView → Type 0
+TellsConnected g p = (one two : ℕ) → one < length p.seqs.one.places → two < length p.seqs.two.places → (are_connected p one two ≡ true) ↔ AreConnected g one two
+
+-- where two sets are connected, the last set before one is connected to the other
+abbrev pub IsClosedBack : PairsView → Side → Type 0
+IsClosedBack p side = (set k : ℕ) (place : Place) (move : SetId × ℕ) → k < length (side_of (other side) p.seqs).places → touches p side set k ≡ true → slice_get (side_of side p.seqs).places set ≡ Some place
+    → last_of (side_of side p.seqs) place.own ≡ Some move → touches p side move.0.0 k ≡ true
+
+-- the pairs are those of a game's sequences, by the sets that are connected in its tree; the first is that of the empty
+-- sequences
+pub record IsPairsOf (g : GameView) (p : PairsView) : Type 0 where
+  pub sides : (side : Side) → IsSideOf side g (side_of side p.seqs)
+  pub connected : TellsConnected g p
+  pub closed : (side : Side) → IsClosedBack p side
+  pub first_pair : slice_get p.pairs 0 ≡ Some (0, 0)

@@ -1,12 +1,12 @@
 -- Numbers for the relevant pairs that meet the correlation rows (von Stengel and Forges 2008).
-use Rattle.std.specs.Prelude.{ℕ, ◌≡◌, ◌+◌, ◌<◌, ◌≤ℤ◌, ℤ, pos, true, List, Option, Some, None, slice_get, slice_index_or}
+pub use Rattle.connected_pairs.specs.Connected.{IsClosedBack}
+use Rattle.std.specs.Prelude.{ℕ, ◌≡◌, ◌+◌, ◌<◌, ◌≤ℤ◌, ℤ, pos, List, Option, Some, None, slice_get, slice_index_or}
 use Rattle.exact_algebra.specs.Sums.{sum_to}
-use Rattle.corr_game.specs.declared.nodes.SetId.{SetId}
 use Rattle.corr_game.specs.declared.sides.Side.{Side}
 use Rattle.corr_game.specs.declared.sides.Side.TheVariants.{One, Two}
 use Rattle.sequences.specs.declared.places.Place.{Place}
 use Rattle.sequences.specs.Number.{count_of, last_of, side_of}
-use Rattle.connected_pairs.specs.Connected.{PairsView, IsTouched, index_of, other, touches}
+use Rattle.connected_pairs.specs.Connected.{PairsView, IsTouched, index_of, other}
 
 -- the value at an index, and 0 where there is none
 abbrev pub value_at : List ℤ → Option ℕ → ℤ
@@ -17,11 +17,6 @@ value_at values (Some k) = slice_index_or values k (pos 0)
 abbrev pub value_of : PairsView → List ℤ → Side → ℕ → ℕ → ℤ
 value_of p values One own beside = value_at values (index_of p own beside)
 value_of p values Two own beside = value_at values (index_of p beside own)
-
--- where two sets are connected, the last set before one is connected to the other
-abbrev pub IsClosedBack : PairsView → Side → Type 0
-IsClosedBack p side = (set k : ℕ) (place : Place) (move : SetId × ℕ) → touches p side set k ≡ true → slice_get (side_of side p.seqs).places set ≡ Some place
-    → last_of (side_of side p.seqs) place.own ≡ Some move → touches p side move.0.0 k ≡ true
 
 -- values of 0 or more by which each set passes on what its own sequence has, beside each sequence of the other player that
 -- is empty or whose last set is connected to it

@@ -57,14 +57,10 @@ fn own_set(game: &Game, side: Side, n: u32) -> Option<SetId>
     match game.node(n) {
         Node::Leaf { .. } | Node::Chance { .. } => None,
         Node::Choice {
-            side: mover, set, ..
-        } => {
-            if *mover == side {
-                Some(*set)
-            } else {
-                None
-            }
-        }
+            side: mover,
+            set,
+            ..
+        } => { if *mover == side { Some(*set) } else { None } }
     }
 }
 

@@ -1,10 +1,7 @@
 -- The entry of two sets is in the table, and marking it marks those two sets alone.
-use Rattle.std.proofs.Common.{◌≡◌, ℕ, true, ◌+◌, ◌*◌, ◌<◌, ◌≤◌, Some, None, length, sym, ap, ◌∙◌, arith}
+use Rattle.std.proofs.Common.{◌≡◌, ℕ, true, ◌+◌, ◌*◌, Some, length, sym, ap, ◌∙◌, arith}
 use Rattle.std.proofs.lemmas.List.{length-set}
 use Rattle.std.proofs.lemmas.Nat.{mul-add-lt}
-use Rattle.corr_game.specs.declared.nodes.SetId.{SetId}
-use Rattle.corr_game.specs.declared.sides.Side.TheVariants.{One, Two}
-use Rattle.corr_game.specs.Game.{sets_of}
 use Rattle.tree_recall.specs.Tree.{set_of}
 use Rattle.connected_pairs.specs.Table.{of_side, other}
 use Rattle.connected_pairs.proofs.Marking.{two_sets, below_passed, below_marked, below_all}

@@ -1,5 +1,5 @@
 -- A node's set is one of its player's, and the nodes below it end in the list.
-use Rattle.std.proofs.Common.{◌≡◌, ℕ, ◌<◌, Some, None, length, refl, ◌∙◌, arith}
+use Rattle.std.proofs.Common.{◌≡◌, ◌<◌, Some, None, length, refl, ◌∙◌, arith}
 use Rattle.std.proofs.lemmas.List.{get_or_default}
 use Rattle.corr_game.specs.declared.nodes.Node.TheVariants.{Choice}
 use Rattle.corr_game.specs.Preorder.{end_of}

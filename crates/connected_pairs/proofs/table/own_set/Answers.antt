@@ -1,5 +1,5 @@
 -- A node's set is one of its player's.
-use Rattle.std.proofs.Common.{◌∙◌, sym, arith}
+use Rattle.std.proofs.Common.{◌∙◌, sym}
 use Rattle.corr_game.specs.declared.nodes.Node.TheVariants.{Choice}
 use Rattle.tree_recall.proofs.Progress.{eq-same_side, same_from_side}
 use Rattle.connected_pairs.proofs.table.own_set.Goals as goal

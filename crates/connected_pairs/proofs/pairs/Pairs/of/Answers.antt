@@ -2,6 +2,8 @@
 use Rattle.std.proofs.Common.{◌∙◌, sym}
 use Rattle.corr_game.specs.declared.sides.Side.TheVariants.{One, Two}
 use Rattle.connected_pairs.proofs.Listing.{whole}
+use Rattle.connected_pairs.specs.Connected.{IsPairs, PairsView}
+use Rattle.connected_pairs.proofs.Closing.{pairs_of}
 use Rattle.connected_pairs.proofs.pairs.Pairs.of.Goals as goal
 
 pub relevant_pairs-requires-clause-all_sets : goal.relevant_pairs-requires-clause-all_sets
@@ -18,3 +20,10 @@ invariant_of-result c = (
   c.sets-width.ensures.count ∙ sym (c.requires.sides Two).per_set,
   c.count-columns.ensures.count,
 )
+
+pub returns : goal.returns
+returns c =
+    let p : PairsView = record { seqs = c.args.seqs; table = c.in_ok-table.table.items; pairs = c.in_ok-listed.listed.pairs.items; places = c.in_ok-listed.listed.places.items } in
+    let rules : IsPairs p = whole c.args.game.now c.args.seqs c.in_ok-table.table.items c.in_ok-listed.listed.pairs.items c.in_ok-listed.listed.places.items
+    (rw (← c.seqs.view_is) c.seqs.invariant.0) (rw (← c.seqs.view_is) c.seqs.invariant.1) c.requires c.in_ok-table.ensures.size (rw c.deref.ensures.value at c.in_ok-listed.ensures) in
+    pairs_of c.args.game.now c.sets-width.ensures.rules p rules c.requires.sides c.in_ok-table.ensures.connected
