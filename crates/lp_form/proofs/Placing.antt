@@ -50,7 +50,7 @@ free_found (entry ∷ next ∷ rest) low cols col (suc (suc at)) d up w other =
 value_at-hit : (entry : Entry) (rest : List Entry) (col : ℕ) → entry.col ≡ col → value_at (entry ∷ rest) col ≡ entry.value
 value_at-hit entry rest col e = grind (arith, nat_tests)
 
-value_at-miss : (entry : Entry) (rest : List Entry) (col : ℕ) → entry.col ≢ col → value_at (entry ∷ rest) col ≡ value_at rest col
+pub value_at-miss : (entry : Entry) (rest : List Entry) (col : ℕ) → entry.col ≢ col → value_at (entry ∷ rest) col ≡ value_at rest col
 value_at-miss entry rest col e = grind (arith, nat_tests)
 
 -- what is stored is the coefficient

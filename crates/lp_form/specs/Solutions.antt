@@ -13,6 +13,14 @@ pub record IsSolution (lp : LpView) (total : ℤ) (x : ℕ → ℤ) : Type 0 whe
 abbrev pub paid : LpView → Side → (ℕ → ℤ) → ℤ
 paid lp side x = sum_to lp.cols (λ col. payoff_of side lp col *ℤ x col)
 
+-- each solution of a program solves this base too
+abbrev pub SolvesToo : LpView → LpView → Type 0
+SolvesToo lp base = (total : ℤ) (x : ℕ → ℤ) → IsSolution lp total x → IsSolution base total x
+
+-- a program pays what this base does
+abbrev pub PaysAlike : LpView → LpView → Type 0
+PaysAlike lp base = (side : Side) (x : ℕ → ℤ) → paid lp side x ≡ paid base side x
+
 -- no solution pays a player more than `bound`, or less than its opposite
 pub record IsBoundedBy (lp : LpView) (bound : ℤ) : Type 0 where
   pub at_most : (side : Side) (total : ℤ) (x : ℕ → ℤ) → pos 0 <ℤ total → IsSolution lp total x → paid lp side x ≤ℤ (bound *ℤ total)

@@ -1,5 +1,6 @@
 ghost use Rattle.std.specs.Prelude.{◌≡◌, ◌≢◌, ◌⊎◌, ℕ, ◌+◌, ◌^◌, ◌<◌, ◌≤◌, List, [], length, pos, ◌≤ℤ◌, slice_set, replicate, OnErr, OnOk, IfOk};
 ghost use Rattle.lp_form.specs.Program.{IsLp, LpView, coefficient, right_of, payoff_of, payoff_row, with_payoff_row, entries_of, blank, joined};
+ghost use Rattle.lp_form.specs.Solutions.{HasBoundedPayoffs, PaysAlike, SolvesToo};
 ghost use Rattle.lp_form.specs.declared.entries.Entry.{Entry};
 ghost use Rattle.corr_game.specs.declared.sides.Side.{Side};
 
@@ -169,6 +170,9 @@ impl Lp {
         requires payoffs { (side : Side) (k : ℕ) → payoff_of side more k ≡ pos 0 }
         requires few_rows { length base.rows + length more.rows ≤ 2 ^ 24 }
         ensures both { IfOk result (λ lp. lp ≡ joined base more) }
+        ensures solutions { IfOk result (λ lp. SolvesToo lp base) }
+        ensures payoffs { IfOk result (λ lp. PaysAlike lp base) }
+        ensures bounded { HasBoundedPayoffs base → IfOk result (λ lp. HasBoundedPayoffs lp) }
     {
         let Lp {
             cols: _,
