@@ -25,8 +25,9 @@ pub product_wider : (entries : List Entry) (cols more : ℕ) (x : ℕ → ℤ) �
     → sum_to more (λ col. value_at entries col *ℤ x col) ≡ sum_to cols (λ col. value_at entries col *ℤ x col)
 product_wider entries cols more x up h =
     let f = λ (col : ℕ). value_at entries col *ℤ x col in
-    let rest : sum_to (more - cols) (λ k. f (cols + k)) ≡ pos 0 =
-    sum_to-nothing (more - cols) (λ k. f (cols + k)) (λ k low. ap (λ (c : ℤ). c *ℤ x (cols + k)) (nothing_behind entries 0 cols (cols + k) up (omega arith)) ∙ zero-*ℤ (x (cols + k))) in
+    let each : (k : ℕ) → f (cols + k) ≡ pos 0 = λ k.
+    ap (λ (c : ℤ). c *ℤ x (cols + k)) (nothing_behind entries 0 cols (cols + k) up (omega arith)) ∙ zero-*ℤ (x (cols + k)) in
+    let rest : sum_to (more - cols) (λ k. f (cols + k)) ≡ pos 0 = sum_to-nothing (more - cols) (λ k. f (cols + k)) (λ k low. each k) in
     let whole : more ≡ cols + (more - cols) = omega arith in
     ap (λ (n : ℕ). sum_to n f) whole ∙ sum_to-split cols (more - cols) f ∙ ap (λ (s : ℤ). sum_to cols f +ℤ s) rest ∙ +ℤ_idr (sum_to cols f)
 
@@ -63,19 +64,22 @@ bounded_too lp base too alike b = (
 )
 
 -- numbers that agree in the columns of a program solve it alike
-pub solution_alike : (lp : LpView) (total : ℤ) (x y : ℕ → ℤ) → ((col : ℕ) → col < lp.cols → y col ≡ x col) → IsSolution lp total x → IsSolution lp total y
+pub solution_alike : (lp : LpView) (total : ℤ) (x y : ℕ → ℤ) → ((col : ℕ) → col < lp.cols → y col ≡ x col) → IsSolution lp total x
+    → IsSolution lp total y
 solution_alike lp total x y same s = record {
   not_negative = λ col low. rw (same col low) (s.not_negative col low);
   meets = λ row low. sum_to-same lp.cols _ _ (λ col h. ap (λ (v : ℤ). coefficient lp row col *ℤ v) (same col h)) ∙ s.meets row low;
 }
 
 -- the same of programs known by their views
-pub solves_as : {inside base within more : LpView} → inside ≡ base → within ≡ more → IsLp inside → base.cols ≤ more.cols → SolvesToo (joined inside within) base
+pub solves_as : {inside base within more : LpView} → inside ≡ base → within ≡ more → IsLp inside → base.cols ≤ more.cols
+    → SolvesToo (joined inside within) base
 solves_as {inside} {base} {within} {more} e f rules wide =
     let Solves : LpView → Type 0 = λ b. SolvesToo (joined inside within) b in
     subst Solves e (solution_of_base inside within rules (rw (e, f) wide))
 
-pub pays_as : {inside base within more : LpView} → inside ≡ base → within ≡ more → IsLp inside → base.cols ≤ more.cols → PaysAlike (joined inside within) base
+pub pays_as : {inside base within more : LpView} → inside ≡ base → within ≡ more → IsLp inside → base.cols ≤ more.cols
+    → PaysAlike (joined inside within) base
 pays_as {inside} {base} {within} {more} e f rules wide =
     let Pays : LpView → Type 0 = λ b. PaysAlike (joined inside within) b in
     subst Pays e (paid_alike inside within rules (rw (e, f) wide))

@@ -19,7 +19,7 @@ is_pair : (pairs : List (ℕ × ℕ)) (k one two : ℕ) (pair : ℕ × ℕ) → 
 is_pair pairs k one two pair at e f = rw (e, f) at
 
 -- the pair at an index is the one that has it
-pair_at : (p : PairsView) → IsPairs p → (one two k : ℕ) → two < count_of p.seqs.two → index_of p one two ≡ Some k → slice_get p.pairs k ≡ Some (one, two)
+pub pair_at : (p : PairsView) → IsPairs p → (one two k : ℕ) → two < count_of p.seqs.two → index_of p one two ≡ Some k → slice_get p.pairs k ≡ Some (one, two)
 pair_at p rules one two k low e =
     let at = rules.listed.each_place _ (Some k) (placed p.places _ k e) in
     let same = same_from_place one two at.0.0 at.0.1 (count_of p.seqs.two) low at.1 at.2 in

@@ -53,7 +53,7 @@ move_more p row at count seq before mid after ends h put = record {
 }
 
 -- the own sequence of a set has another number than its moves
-own_apart : (p : PairsView) → IsPairs p → (row : Row) (own k : ℕ) → row.beside < count_of (side_of (other row.side) p.seqs) → IsOwn (side_of row.side p.seqs) row.set.0 own
+pub own_apart : (p : PairsView) → IsPairs p → (row : Row) (own k : ℕ) → row.beside < count_of (side_of (other row.side) p.seqs) → IsOwn (side_of row.side p.seqs) row.set.0 own
     → column_of p row.side own row.beside ≡ Some k → IsOfMove p row k → ⊥
 own_apart p rules row own k in_range is e m =
     let side = rules.sides row.side in

@@ -1,6 +1,11 @@
+pub mod Bounding
 pub mod Columns
 pub mod Counting
+pub mod Equations
 pub mod FewSets
 pub mod Filling
 pub mod Growing
+pub mod Meeting
+pub mod NoneAbove
 pub mod Ordering
+pub mod Units

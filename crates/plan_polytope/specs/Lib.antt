@@ -4,3 +4,4 @@ pub mod Placing
 pub mod RowCount
 pub mod RowOrder
 pub mod Rows
+pub mod Solutions

@@ -2,11 +2,13 @@ ghost use Rattle.std.specs.Prelude.{◌≡◌, ◌≢◌, ◌<◌, ◌≤◌, �
 ghost use Rattle.corr_game.specs.Game.{sets_of};
 ghost use Rattle.sequences.specs.Number.{count_of, side_of};
 ghost use Rattle.lp_form.specs.Program.{coefficient, right_of};
+ghost use Rattle.lp_form.specs.Solutions.{HasBoundedPayoffs};
 ghost use Rattle.connected_pairs.specs.Connected.{IsPairs, IsPairsOf, other};
 ghost use Rattle.plan_polytope.specs.Bounds.{AreUnits, IsWithin};
 ghost use Rattle.plan_polytope.specs.CorrelationRow.{AreFilled, IsCorrelationRow, IsRowOf, IsTotalRow, column_of};
 ghost use Rattle.plan_polytope.specs.Placing.{Puts};
 ghost use Rattle.plan_polytope.specs.Rows.{AreCorrelationRows};
+ghost use Rattle.plan_polytope.specs.Solutions.{SolutionsMeetRows};
 
 use crate::payoffs::add_payoffs;
 use crate::rows::{Row, correlation_rows};
@@ -27,6 +29,8 @@ pub fn polytope(alloc: Global, game: &Game, pairs: &Pairs) -> Result<Lp, NoMemor
     ensures other_rights { IfOk result (λ lp. (r : ℕ) → right_of lp (r + 1) ≡ pos 0) }
     ensures amounts { IfOk result (λ lp. IsWithin (2 ^ 40) lp) }
     ensures units { IfOk result (λ lp. AreUnits lp) }
+    ensures meets { IfOk result (λ lp. SolutionsMeetRows pairs.now lp) }
+    ensures bounded { IfOk result (λ lp. HasBoundedPayoffs lp) }
 {
     let columns = pairs.len();
     let rows = correlation_rows(alloc, game, pairs)?;
