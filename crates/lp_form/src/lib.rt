@@ -3,8 +3,8 @@
 //! It stands on `corr_game` for the two players. An `Lp` is seen as its number of columns, the stored entries of each
 //! row in ascending order of their columns, the right sides and the two payoff rows; `coefficient`, `right_of` and
 //! `payoff_of` read it as a matrix, 0 where nothing is stored. What solves joined programs solves the first, and is paid
-//! the same. The layer above uses `Lp`, whose `row` lends a row's
-//! entries to loops that pass over the zeros, `NumList`, and the names of places in a tableau.
+//! the same. The layer above uses `Lp`, whose `row` lends a row's entries to loops that pass over the zeros, `NumList`,
+//! and the names of places in a tableau.
 #![tactic(auto)]
 
 mod entries;
