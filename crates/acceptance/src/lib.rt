@@ -3,7 +3,7 @@
 //! It stands on all crates and no layer stands on it: it has tests alone, and no public function. `games` has the files,
 //! `generated` those that a rule writes, and `runs` the way of a text through `corr_run::run`.
 //!
-//! - `reports`, `notions`, `refusals` and `families` compare what is printed
+//! - `reports`, `notions`, `refusals`, `limits`, `cuts` and `families` compare what is printed
 //! - `equilibria` counts out, over all plans and all deviations, that each distribution that is found is an equilibrium
 //! - `certificates` multiplies out that each side's multipliers bound each column of the program
 //! - `belts` goes round the sides: with the two before, a polygon is neither too small nor too large
@@ -13,6 +13,8 @@
 mod belts;
 #[cfg(test)]
 mod certificates;
+#[cfg(test)]
+mod cuts;
 #[cfg(test)]
 mod deviations;
 #[cfg(test)]
@@ -25,6 +27,8 @@ mod families;
 mod games;
 #[cfg(test)]
 mod generated;
+#[cfg(test)]
+mod limits;
 #[cfg(test)]
 mod notions;
 #[cfg(test)]

@@ -1,7 +1,6 @@
 // Files that are refused, and the line that says why.
 use crate::runs::expect_text;
 use corr_run::Status;
-use std::alloc::{AllocError, Global};
 use std::test::Fail;
 
 /// Two letters are drawn, and each player sees one of them.
@@ -93,6 +92,12 @@ t "" 1 { 1/16777217 0 }
 t "" 2 { 0 0 }
 "#;
 
+/// The smallest file, with an amount one over the limit.
+const OVER_LIMIT_ALONE: &str = r#"EFG 2 R "One" { "A" "B" }
+""
+t "" 1 "" { 1099511627777, 4 }
+"#;
+
 const PATH_TOO_FINE: &str = r#"EFG 2 R "Path" { "A" "B" }
 p "" 1 1 { "L" } 1 { 1/16777216 0 }
 t "" 2 { 1/3 0 }
@@ -118,33 +123,11 @@ fn each_file_has_its_line(rt: HostRuntime) -> Result<(), Fail> {
         (TOO_FINE, "refused ScaleTooLarge player 1\n"),
         (TOO_LARGE, "refused AmountTooLarge node 1\n"),
         (OVER_LIMIT, "refused NumberTooWide node 1\n"),
+        (OVER_LIMIT_ALONE, "refused NumberTooWide node 0\n"),
         (PATH_TOO_FINE, "refused PathTooFine node 1\n"),
     ];
     for (input, line) in table {
         expect_text(&rt, rt.alloc(), input, line, Status::Refused)?;
     }
     Ok(())
-}
-
-/// A path of moves of player 1, each with one action and a set of its own.
-fn path(alloc: Global, moves: u32) -> Result<String, AllocError> {
-    let mut text = String::from_str(alloc, "EFG 2 R \"Path\" { \"A\" \"B\" }\n")?;
-    for set in 0..moves {
-        let line = format!(in alloc; "p \"\" 1 {set} {{ \"on\" }} 0\n")?;
-        text.push_str(line.as_str())?;
-    }
-    text.push_str("t \"\" 0\n")?;
-    Ok(text)
-}
-
-#[test]
-fn a_path_is_too_deep(rt: HostRuntime) -> Result<(), Fail> {
-    let text = path(rt.alloc(), 257)?;
-    expect_text(
-        &rt,
-        rt.alloc(),
-        text.as_str(),
-        "refused TooDeep node 257\n",
-        Status::Refused,
-    )
 }

@@ -4,7 +4,7 @@ ghost use Rattle.cert_check.specs.Scales.{HasScales};
 ghost use Rattle.corr_game.specs.Game.{IsGame};
 ghost use Rattle.corr_num.specs.Narrow.{Narrow};
 ghost use Rattle.connected_pairs.specs.Connected.{IsPairsOf};
-ghost use Rattle.report_form.specs.Ranges.{InOrderFrom, IsBlock, IsCorner, IsReport, IsSide};
+ghost use Rattle.report_form.specs.Ranges.{InOrderFrom, IsBlock, IsCorner, IsSide};
 ghost use Rattle.cert_check.specs.Fits.{AllFit, Fits};
 
 use crate::corners::check_corner;
@@ -27,7 +27,6 @@ pub fn check(
     report: &Report,
 ) -> Result<Verdict, NoMemory>
     requires whose { IsPairsOf game.now pairs.now }
-    requires ranges { IsReport report.now }
     requires sizes { AllFit game.now pairs.now report.now.blocks }
     ensures no_scale { IfOk result (λ verdict. verdict ≡ NoScale → HasScales game.now report.now → ⊥) }
     ensures scales { IfOk result (λ verdict. (HasScales game.now report.now → ⊥) → verdict ≡ NoScale) }
@@ -35,7 +34,7 @@ pub fn check(
     if !has_scales(game, report) {
         return Ok(Verdict::NoScale);
     }
-    let verdict = check_blocks(alloc, game, pairs, &report.blocks)?;
+    let verdict = check_blocks(alloc, game, pairs, report.blocks())?;
     Ok(verdict)
 }
 
@@ -43,7 +42,8 @@ fn has_scales(game: &Game, report: &Report) -> bool
     ensures rules { IsGame game.now }
     ensures scales { IsTrue result ↔ HasScales game.now report.now }
 {
-    report.scale_one == game.scale(Side::One) && report.scale_two == game.scale(Side::Two)
+    *report.scale(Side::One) == game.scale(Side::One)
+        && *report.scale(Side::Two) == game.scale(Side::Two)
 }
 
 fn check_blocks(

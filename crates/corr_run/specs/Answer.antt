@@ -3,7 +3,7 @@ use Rattle.std.specs.Prelude.{◌≡◌, ℕ, ◌^◌, ◌<◌, ◌≤◌, List,
 use Rattle.corr_game.specs.declared.payoffs.Pay.{Pay}
 use Rattle.efg_reader.specs.FirstForm.{HasFirstForm}
 use Rattle.report_form.specs.declared.refusals.Refusal.{Refusal}
-use Rattle.report_form.specs.declared.reports.Report.{Report}
+use Rattle.report_form.specs.View.{ReportView}
 use Rattle.report_form.specs.Ranges.{IsReport}
 use Rattle.report_text.specs.RefusalText.{refusal_text}
 use Rattle.report_text.specs.ReportText.{report_text}
@@ -26,7 +26,7 @@ pub data SolveAnswer (notions : Notions) (input text : List ℕ) (status : Statu
   too_long : 2 ^ 22 < length input → text ≡ too_long_line → status ≡ Refused → SolveAnswer notions input text status
   one_node : length input ≤ 2 ^ 22 → (pay : Pay) → HasFirstForm input pay → text ≡ one_node_report notions pay → status ≡ Solved → SolveAnswer notions input text status
   refused : IsGeneral input → (refusal : Refusal) → IsOfInput refusal → text ≡ refusal_text refusal → status ≡ Refused → SolveAnswer notions input text status
-  reported : IsGeneral input → (report : Report) → IsReport report → AreBlocksOf notions report.blocks → text ≡ report_text report → HasStatus report.blocks status → SolveAnswer notions input text status
+  reported : IsGeneral input → (report : ReportView) → IsReport report → AreBlocksOf notions report.blocks → text ≡ report_text report → HasStatus report.blocks status → SolveAnswer notions input text status
 
 -- the text and the status that the words and the input give
 pub data Answer (words : List (List ℕ)) (input text : List ℕ) (status : Status) : Type 0 where

@@ -44,7 +44,7 @@ fn report_answer(alloc: Global, report: &Report) -> Result<Answer, AllocError>
     ensures status { IfOk result (λ answer. HasStatus report.now.blocks answer.status) }
 {
     let text = write_report(alloc, report)?;
-    if some_too_wide(&report.blocks) {
+    if some_too_wide(report.blocks()) {
         return Ok(Answer {
             text,
             status: Status::TooWide,

@@ -98,14 +98,9 @@ fn blocks_of(alloc: Global, ready: &Ready, notions: Notions) -> Result<BlockList
 fn report_of(game: &Game, blocks: BlockList) -> Report
     requires whole { AreWhole blocks }
     requires selected { (notions : Notions) × SelectsSome notions × (notions_of blocks ≡ selected notions) }
-    ensures ranges { IsReport result }
     ensures blocks { result.blocks ≡ blocks }
 {
-    Report {
-        scale_one: game.scale(Side::One),
-        scale_two: game.scale(Side::Two),
-        blocks,
-    }
+    Report::of(game.scale(Side::One), game.scale(Side::Two), blocks)
 }
 
 /// What the file's game comes to: its first refusal, or the report with the blocks of the selected notions.

@@ -10,7 +10,7 @@ use Rattle.report_form.specs.declared.reports.Corner.{Corner}
 use Rattle.report_form.specs.declared.reports.Block.{Block}
 use Rattle.report_form.specs.declared.reports.Block.TheVariants.{Found, Empty, TooWide}
 use Rattle.report_form.specs.declared.reports.NamedBlock.{NamedBlock}
-use Rattle.report_form.specs.declared.reports.Report.{Report}
+use Rattle.report_form.specs.View.{ReportView}
 
 -- 1 or more, and narrow
 abbrev pub IsPositive : ℤ → Type 0
@@ -66,7 +66,7 @@ abbrev pub IsScale : ℤ → Type 0
 IsScale scale = (pos 1 ≤ℤ scale) × (scale ≤ℤ pos (2 ^ 24))
 
 -- a report: two scales and at least one block
-pub record IsReport (report : Report) : Type 0 where
+pub record IsReport (report : ReportView) : Type 0 where
   pub scale_one : IsScale report.scale_one
   pub scale_two : IsScale report.scale_two
   pub a_block : 1 ≤ length report.blocks

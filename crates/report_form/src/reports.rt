@@ -1,6 +1,8 @@
 ghost use Rattle.std.specs.Prelude.{◌≡◌, ◌<◌, ◌++◌, ◌∷◌, [], length, slice_get, slice_index, Some, OnErr, OnOk};
+ghost use Rattle.report_form.specs.Ranges.{IsReport};
+ghost use Rattle.report_form.specs.View.{scale_in};
 
-use corr_game::{Notion, PairList};
+use corr_game::{Notion, PairList, Side};
 use lp_form::{NumList, Place};
 use plane_hull::{Point, SideList};
 use std::alloc::{AllocError as NoMemory, Global};
@@ -168,10 +170,70 @@ impl BlockList {
     }
 }
 
-/// A report on a game: the scales by which its payoffs were multiplied, and a block for each selected notion.
+/// A report on a game: the scales by which its payoffs were multiplied, and a block for each selected notion. The type
+/// keeps all ranges of a report's numbers, and the order of its blocks.
 #[derive(Debug, Drop)]
 pub struct Report {
-    pub scale_one: i64,
-    pub scale_two: i64,
-    pub blocks: BlockList,
+    scale_one: i64,
+    scale_two: i64,
+    blocks: BlockList,
+}
+
+impl Model for Report {
+    ghost use Rattle.report_form.specs.Ranges.{IsReport};
+    ghost use Rattle.report_form.specs.View.{ReportView};
+
+    ghost Value = { ReportView };
+
+    ghost view = { λ a. record {
+      scale_one = a.scale_one;
+      scale_two = a.scale_two;
+      blocks = a.blocks;
+    } };
+
+    ghost invariant = { λ a. IsReport record {
+      scale_one = a.scale_one;
+      scale_two = a.scale_two;
+      blocks = a.blocks;
+    } };
+}
+
+impl Report {
+    pub fn of(scale_one: i64, scale_two: i64, blocks: BlockList) -> Report
+        requires { IsReport record {
+          scale_one = scale_one;
+          scale_two = scale_two;
+          blocks = blocks;
+        } }
+        ensures made { result
+            ≡ record {
+              scale_one = scale_one;
+              scale_two = scale_two;
+              blocks = blocks;
+            } }
+    {
+        Report {
+            scale_one,
+            scale_two,
+            blocks,
+        }
+    }
+
+    /// The scale of a player's payoffs.
+    pub fn scale(&self, side: Side) -> &i64
+        ensures scale { result.now ≡ scale_in side self.now }
+        ensures rules { IsReport self.now }
+    {
+        match side {
+            Side::One => &self.scale_one,
+            Side::Two => &self.scale_two,
+        }
+    }
+
+    pub fn blocks(&self) -> &BlockList
+        ensures blocks { result.now ≡ self.now.blocks }
+        ensures rules { IsReport self.now }
+    {
+        &self.blocks
+    }
 }

@@ -1,5 +1,5 @@
 ghost use Rattle.std.specs.Prelude.{◌≡◌, ◌≤◌, length, IfOk, IfErr};
-ghost use Rattle.report_form.specs.Ranges.{InOrderFrom, IsReport};
+ghost use Rattle.report_form.specs.Ranges.{InOrderFrom};
 ghost use Rattle.report_reader.specs.Place.{IsPlace};
 
 use crate::blocks::read_named_block;
@@ -30,7 +30,6 @@ fn read_blocks(alloc: Global, pieces: &mut Pieces) -> Result<BlockList, Stop>
 }
 
 fn read_whole(alloc: Global, pieces: &mut Pieces) -> Result<Report, Stop>
-    ensures report { IfOk result (λ report. IsReport report) }
     ensures same_input { pieces.new.bytes ≡ pieces.old.bytes }
 {
     expect_first(pieces, b"corr-report")?;
@@ -44,18 +43,13 @@ fn read_whole(alloc: Global, pieces: &mut Pieces) -> Result<Report, Stop>
     let blocks = read_blocks(alloc, pieces)?;
     pieces.expect(b"end")?;
     pieces.expect(b"\n")?;
-    Ok(Report {
-        scale_one,
-        scale_two,
-        blocks,
-    })
+    Ok(Report::of(scale_one, scale_two, blocks))
 }
 
 /// The report whose text is a front of the bytes, and the length of that text.
 ///
 /// Nothing is reserved from a count that the text claims: a list grows only with what is read.
 pub fn read_report(alloc: Global, bytes: &[u8]) -> Result<(Report, usize), ReportRefusal>
-    ensures report { IfOk result (λ it. IsReport it.0) }
     ensures within { IfOk result (λ it. it.1 ≤ length bytes.now) }
     ensures place { IfErr result (λ refusal. IsPlace (length bytes.now) refusal) }
 {

@@ -4,7 +4,7 @@ use Rattle.report_form.specs.declared.reports.Corner.{Corner}
 use Rattle.report_form.specs.declared.reports.Block.{Block}
 use Rattle.report_form.specs.declared.reports.Block.TheVariants.{Found, Empty, TooWide}
 use Rattle.report_form.specs.declared.reports.NamedBlock.{NamedBlock}
-use Rattle.report_form.specs.declared.reports.Report.{Report}
+use Rattle.report_form.specs.View.{ReportView}
 use Rattle.report_text.specs.Joined.{texts_from, each_text}
 use Rattle.report_text.specs.NameText.{notion_name}
 use Rattle.report_text.specs.PartText.{int_text, count_text, frac_text, pair_text, side_text, multipliers_text, place_text}
@@ -29,6 +29,6 @@ block_text (TooWide basis place) = codes " toowide\n" ++ place_text basis place
 unfoldable pub named_block_text : NamedBlock → List ℕ
 named_block_text named = codes "notion " ++ notion_name named.notion ++ block_text named.block
 
-unfoldable pub report_text : Report → List ℕ
+unfoldable pub report_text : ReportView → List ℕ
 report_text report = codes "corr-report 1\nscale" ++ int_text report.scale_one ++ int_text report.scale_two ++ codes "\n"
     ++ each_text named_block_text report.blocks ++ codes "end\n"

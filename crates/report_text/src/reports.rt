@@ -5,6 +5,7 @@ ghost use Rattle.report_text.specs.ReportText.{named_block_text, report_text};
 
 use crate::blocks::add_named_block;
 use crate::lists::add_spaced;
+use corr_game::Side;
 use report_form::{BlockList, Report};
 use std::alloc::{AllocError as NoMemory, Global};
 use text_pieces::add_bytes;
@@ -24,10 +25,10 @@ pub fn write_report(alloc: Global, report: &Report) -> Result<Vec<u8>, NoMemory>
 {
     let mut out = Vec::new(alloc);
     add_bytes(&mut out, b"corr-report 1\nscale")?;
-    add_spaced(&mut out, &report.scale_one)?;
-    add_spaced(&mut out, &report.scale_two)?;
+    add_spaced(&mut out, report.scale(Side::One))?;
+    add_spaced(&mut out, report.scale(Side::Two))?;
     add_bytes(&mut out, b"\n")?;
-    add_blocks(&mut out, &report.blocks)?;
+    add_blocks(&mut out, report.blocks())?;
     add_bytes(&mut out, b"end\n")?;
     Ok(out)
 }

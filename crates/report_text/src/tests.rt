@@ -1,79 +1,12 @@
-ghost use Rattle.std.specs.Prelude.{◌<◌};
-
-use crate::{
-    add_frac, add_multipliers, add_pair, add_place, add_side, write_refusal, write_report,
-};
-use corr_game::{Notion, Pair, PairList, Plan, Side};
+use crate::{add_frac, add_multipliers, add_pair, add_place, add_side, write_refusal};
+use corr_game::{Notion, Pair, Plan, Side};
 use corr_num::Frac;
 use lp_form::{NumList, Place, RowName};
-use plane_hull::{Dir, Point, SideList, SideRow};
-use report_form::{
-    Block, BlockList, ColumnList, Corner, Corners, NamedBlock, NodeRule, Refusal, Report,
-};
+use plane_hull::{Dir, SideRow};
+use report_form::{ColumnList, NodeRule, Refusal};
 use std::alloc::{AllocError, Global};
 use std::process::Abort;
 use std::test::Fail;
-
-const ONE_REPORT: &[u8] = b"corr-report 1\n\
-scale 1 1\n\
-notion efce found\n\
-corners 1\n\
-corner 0 3 4 total 1 pairs 1\n\
-weight 1\n\
-one\n\
-two\n\
-sides 4\n\
-side 1 0 corner 0 den 1\n\
-first 3\n\
-second 4\n\
-side 0 1 corner 0 den 1\n\
-first 3\n\
-second 4\n\
-side -1 0 corner 0 den 1\n\
-first 3\n\
-second 4\n\
-side 0 -1 corner 0 den 1\n\
-first 3\n\
-second 4\n\
-notion efcce found\n\
-corners 1\n\
-corner 0 3 4 total 1 pairs 1\n\
-weight 1\n\
-one\n\
-two\n\
-sides 4\n\
-side 1 0 corner 0 den 1\n\
-first 3\n\
-second 4\n\
-side 0 1 corner 0 den 1\n\
-first 3\n\
-second 4\n\
-side -1 0 corner 0 den 1\n\
-first 3\n\
-second 4\n\
-side 0 -1 corner 0 den 1\n\
-first 3\n\
-second 4\n\
-notion nfcce found\n\
-corners 1\n\
-corner 0 3 4 total 1 pairs 1\n\
-weight 1\n\
-one\n\
-two\n\
-sides 4\n\
-side 1 0 corner 0 den 1\n\
-first 3 0 0\n\
-second 4 0 0\n\
-side 0 1 corner 0 den 1\n\
-first 3 0 0\n\
-second 4 0 0\n\
-side -1 0 corner 0 den 1\n\
-first 3 0 0\n\
-second 4 0 0\n\
-side 0 -1 corner 0 den 1\n\
-first 3 0 0\n\
-second 4 0 0\n\
-end\n";
 
 fn numbers(alloc: Global, values: &[i128]) -> Result<NumList, AllocError> {
     let mut list = NumList::new(alloc);
@@ -187,61 +120,5 @@ fn a_line_of_each_shape(rt: HostRuntime) -> Result<(), Fail> {
     for (refusal, line) in table.iter() {
         assert_eq!(rt; write_refusal(rt.alloc(), refusal)?.as_slice(), *line);
     }
-    Ok(())
-}
-
-/// The block of a game that has one node, which pays 3 and 4, where the programs have these rows behind the first.
-fn one_node_block(alloc: Global, rows_behind: usize) -> Result<Block, AllocError>
-    requires { rows_behind < 3 }
-{
-    let (three, four) = (Frac::of(3, 1), Frac::of(4, 1));
-    let mut corners = Corners::new(alloc);
-    let mut pairs = PairList::new(alloc);
-    pairs.push(Pair {
-        one: Plan::from_list(Vec::new(alloc)),
-        two: Plan::from_list(Vec::new(alloc)),
-        weight: 1,
-    })?;
-    corners.push(Corner {
-        point: Point {
-            one: three,
-            two: four,
-        },
-        total: 1,
-        pairs,
-    })?;
-    let mut sides = SideList::new(alloc);
-    let axes = [
-        Dir { a: 1, b: 0 },
-        Dir { a: 0, b: 1 },
-        Dir { a: -1, b: 0 },
-        Dir { a: 0, b: -1 },
-    ];
-    for dir in axes {
-        sides.push(SideRow {
-            dir,
-            corner: 0,
-            den: 1,
-            first: numbers(alloc, &[3, 0, 0][..rows_behind + 1])?,
-            second: numbers(alloc, &[4, 0, 0][..rows_behind + 1])?,
-        })?;
-    }
-    Ok(Block::Found { corners, sides })
-}
-
-#[test]
-fn the_report_of_one_node(rt: HostRuntime) -> Result<(), Fail> {
-    let alloc = rt.alloc();
-    let mut blocks = BlockList::new(alloc);
-    for (notion, rows_behind) in [(Notion::Efce, 0), (Notion::Efcce, 0), (Notion::Nfcce, 2)] {
-        let block = one_node_block(alloc, rows_behind)?;
-        blocks.push(NamedBlock { notion, block })?;
-    }
-    let report = Report {
-        scale_one: 1,
-        scale_two: 1,
-        blocks,
-    };
-    assert_eq!(rt; write_report(alloc, &report)?.as_slice(), ONE_REPORT);
     Ok(())
 }
