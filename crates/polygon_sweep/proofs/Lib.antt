@@ -1,3 +1,5 @@
+mod Angles
 mod Axes
 mod Divisors
 mod Growing
+mod Ranks

@@ -1,0 +1,71 @@
+-- Angles in the plane by the signs of whole numbers. Of four vectors u, v, w, x the products of areas
+-- [u w] [v x] = [u v] [w x] + [u x] [v w] put the fourth to the left of the second.
+use Rattle.std.proofs.Common.{◌≡◌, ◌⊎◌, inl, inr, ℤ, pos, negsuc, ◌+ℤ◌, ◌-ℤ◌, ◌*ℤ◌, ◌<ℤ◌, ◌≤ℤ◌, arith}
+use Rattle.std.proofs.lemmas.Int.{ints}
+use Rattle.exact_algebra.proofs.Order.{at_most_or_above, product_not_negative, product_positive, product_not_positive, factor_positive, square_not_negative, square_nothing}
+use Rattle.exact_algebra.proofs.RingLaws.{*ℤ_comm}
+use Rattle.exact_algebra.proofs.RingTactic.{ring_laws, linear}
+use Rattle.plane_hull.specs.declared.directions.Dir.{Dir}
+use Rattle.polygon_sweep.specs.Turning.{cross, dot, IsAhead, IsAxis, IsBoundOf, TurnsTo}
+
+areas : (a b c d e f g h : ℤ) → cross a b e f *ℤ cross c d g h ≡ cross a b c d *ℤ cross e f g h +ℤ cross a b g h *ℤ cross c d e f
+areas a b c d e f g h = simp ring_laws (omega (arith, linear))
+
+lengths : (a b c d e f : ℤ) → (a *ℤ a +ℤ b *ℤ b) *ℤ cross c d e f ≡ dot a b c d *ℤ cross a b e f -ℤ cross a b c d *ℤ dot a b e f
+lengths a b c d e f = simp ring_laws (omega (arith, linear))
+
+-- a vector with something to its left isn't 0
+has_length : (a b e f : ℤ) → pos 0 <ℤ cross a b e f → pos 0 <ℤ (a *ℤ a +ℤ b *ℤ b)
+has_length a b e f left = by (at_most_or_above (a *ℤ a +ℤ b *ℤ b) (pos 0))
+  where
+    by : ((a *ℤ a +ℤ b *ℤ b) ≤ℤ pos 0) ⊎ (pos 0 <ℤ (a *ℤ a +ℤ b *ℤ b)) → pos 0 <ℤ (a *ℤ a +ℤ b *ℤ b)
+    by (inr above) = above
+    by (inl none) =
+        let first = square_not_negative a in
+        let second = square_not_negative b in
+        let a_0 = square_nothing a (let level : a *ℤ a ≡ pos 0 = omega (arith, linear) in level) in
+        let b_0 = square_nothing b (let level : b *ℤ b ≡ pos 0 = omega (arith, linear) in level) in
+        let gone = rw (a_0, b_0) at left in
+        absurd (let given = simp ring_laws at gone in omega (arith, linear))
+
+-- the four products of the argument as plain numbers
+no_both : (p q r : ℤ) → p ≡ q -ℤ r → r ≡ pos 0 → q ≤ℤ pos 0 → pos 0 <ℤ p → ⊥
+no_both p q r same rest low high = omega (arith, ints)
+
+-- a bound straight behind the direction isn't met before another direction to the left
+pub ahead_left : (dir bound other : Dir) → IsAhead dir bound → pos 0 <ℤ cross dir.a dir.b other.a other.b → pos 0 <ℤ cross bound.a bound.b other.a other.b → pos 0 <ℤ cross dir.a dir.b bound.a bound.b
+ahead_left dir bound other ahead left before = by (at_most_or_above (cross dir.a dir.b bound.a bound.b) (pos 0))
+  where
+    by : (cross dir.a dir.b bound.a bound.b ≤ℤ pos 0) ⊎ (pos 0 <ℤ cross dir.a dir.b bound.a bound.b) → pos 0 <ℤ cross dir.a dir.b bound.a bound.b
+    by (inr above) = above
+    by (inl none) =
+        let low = ahead.left in
+        let level : cross dir.a dir.b bound.a bound.b ≡ pos 0 = omega (arith, ints) in
+        let product = product_positive (has_length dir.a dir.b other.a other.b left) before in
+        let weak : pos 0 ≤ℤ cross dir.a dir.b other.a other.b = omega (arith, ints) in
+        let gain = product_not_positive weak (ahead.behind level) in
+        let same = lengths dir.a dir.b bound.a bound.b other.a other.b in
+        let rest : cross dir.a dir.b bound.a bound.b *ℤ dot dir.a dir.b other.a other.b ≡ pos 0 = rw level (omega (arith, linear)) in
+        let turned : (dot dir.a dir.b bound.a bound.b *ℤ cross dir.a dir.b other.a other.b) ≤ℤ pos 0 = rw (*ℤ_comm (dot dir.a dir.b bound.a bound.b) (cross dir.a dir.b other.a other.b)) gain in
+        absurd (no_both _ _ _ same rest turned product)
+
+at_least_0 : (x : ℤ) → pos 0 <ℤ x → pos 0 ≤ℤ x
+at_least_0 x h = omega (arith, ints)
+
+sum_positive : (x y z : ℤ) → x ≡ y +ℤ z → pos 0 ≤ℤ y → pos 0 <ℤ z → pos 0 <ℤ x
+sum_positive x y z e h k = omega (arith, ints)
+
+pub turns_sooner : (dir bound other : Dir) → IsAhead dir bound → TurnsTo dir other → pos 0 <ℤ cross bound.a bound.b other.a other.b → TurnsTo dir bound
+turns_sooner dir bound other ahead turns before =
+    let left = ahead_left dir bound other ahead turns.left before in
+    record {
+      left = left;
+      no_axis = λ a b axis over.
+        let later = turns.no_axis a b axis over in
+        let first = product_not_negative (let weak : pos 0 ≤ℤ cross dir.a dir.b bound.a bound.b = omega (arith, ints) in weak) later in
+        let second = product_positive over before in
+        let same = areas dir.a dir.b bound.a bound.b other.a other.b a b in
+        let whole = sum_positive _ _ _ same first second in
+        let here = factor_positive (cross dir.a dir.b other.a other.b) (let weak : pos 0 ≤ℤ cross dir.a dir.b other.a other.b = at_least_0 _ turns.left in weak) whole in
+        at_least_0 _ here;
+    }
