@@ -1,9 +1,9 @@
 -- Angles in the plane by the signs of whole numbers. Of four vectors u, v, w, x the products of areas
 -- [u w] [v x] = [u v] [w x] + [u x] [v w] put the fourth to the left of the second.
-use Rattle.std.proofs.Common.{◌≡◌, ◌⊎◌, inl, inr, ℤ, pos, negsuc, ◌+ℤ◌, ◌-ℤ◌, ◌*ℤ◌, ◌<ℤ◌, ◌≤ℤ◌, arith}
+use Rattle.std.proofs.Common.{◌≡◌, ◌⊎◌, inl, inr, sym, ap, ◌∙◌, Option, Some, None, IfSome, ℤ, pos, negsuc, ◌+ℤ◌, ◌-ℤ◌, ◌*ℤ◌, ◌<ℤ◌, ◌≤ℤ◌, arith}
 use Rattle.std.proofs.lemmas.Int.{ints}
-use Rattle.exact_algebra.proofs.Order.{at_most_or_above, product_not_negative, product_positive, product_not_positive, factor_positive, square_not_negative, square_nothing}
-use Rattle.exact_algebra.proofs.RingLaws.{*ℤ_comm}
+use Rattle.exact_algebra.proofs.Order.{at_most_or_above, product_not_negative, product_positive, product_not_positive, factor_positive, factor_not_negative, factor_not_positive, square_not_negative, square_nothing}
+use Rattle.exact_algebra.proofs.RingLaws.{*ℤ_comm, *ℤ-zero}
 use Rattle.exact_algebra.proofs.RingTactic.{ring_laws, linear}
 use Rattle.plane_hull.specs.declared.directions.Dir.{Dir}
 use Rattle.polygon_sweep.specs.Turning.{cross, dot, IsAhead, IsAxis, IsBoundOf, TurnsTo}
@@ -61,11 +61,47 @@ turns_sooner dir bound other ahead turns before =
     record {
       left = left;
       no_axis = λ a b axis over.
-        let later = turns.no_axis a b axis over in
-        let first = product_not_negative (let weak : pos 0 ≤ℤ cross dir.a dir.b bound.a bound.b = omega (arith, ints) in weak) later in
-        let second = product_positive over before in
-        let same = areas dir.a dir.b bound.a bound.b other.a other.b a b in
-        let whole = sum_positive _ _ _ same first second in
-        let here = factor_positive (cross dir.a dir.b other.a other.b) (let weak : pos 0 ≤ℤ cross dir.a dir.b other.a other.b = at_least_0 _ turns.left in weak) whole in
-        at_least_0 _ here;
+          let later = turns.no_axis a b axis over in
+          let first = product_not_negative (let weak : pos 0 ≤ℤ cross dir.a dir.b bound.a bound.b = omega (arith, ints) in weak) later in
+          let second = product_positive over before in
+          let same = areas dir.a dir.b bound.a bound.b other.a other.b a b in
+          let whole = sum_positive _ _ _ same first second in
+          let here = factor_positive (cross dir.a dir.b other.a other.b) (let weak : pos 0 ≤ℤ cross dir.a dir.b other.a other.b = at_least_0 _ turns.left in weak) whole in
+          at_least_0 _ here;
     }
+
+-- ---- the bound of a column that doesn't improve
+
+module _ (dir bound : Dir) (first second : ℤ) (is : IsBoundOf first second bound) where
+  along : (a b x y f s by : ℤ) → x *ℤ by ≡ pos 0 -ℤ s → y *ℤ by ≡ f → by *ℤ cross a b x y ≡ a *ℤ f +ℤ b *ℤ s
+  along a b x y f s by x_is y_is = let one : y *ℤ by ≡ f = y_is in let two : s ≡ pos 0 -ℤ x *ℤ by = omega (arith, ints) in rw (two, ← one) (simp ring_laws (omega (arith, linear)))
+
+  across : (a b x y f s by : ℤ) → x *ℤ by ≡ pos 0 -ℤ s → y *ℤ by ≡ f → by *ℤ dot a b x y ≡ pos 0 -ℤ (a *ℤ s -ℤ b *ℤ f)
+  across a b x y f s by x_is y_is = let one : y *ℤ by ≡ f = y_is in let two : s ≡ pos 0 -ℤ x *ℤ by = omega (arith, ints) in rw (two, ← one) (simp ring_laws (omega (arith, linear)))
+
+  ahead_of_bound : ((a_first : (dir.a *ℤ first +ℤ dir.b *ℤ second) <ℤ pos 0) → ⊥) → (dir.a *ℤ first +ℤ dir.b *ℤ second ≡ pos 0 → (dir.a *ℤ second -ℤ dir.b *ℤ first) <ℤ pos 0 → ⊥) → IsAhead dir bound
+  ahead_of_bound not_below not_level = record { left = left; behind = behind }
+    where
+      reduced : is.by *ℤ cross dir.a dir.b bound.a bound.b ≡ dir.a *ℤ first +ℤ dir.b *ℤ second
+      reduced = along dir.a dir.b bound.a bound.b first second is.by is.a is.b
+
+      turned : is.by *ℤ dot dir.a dir.b bound.a bound.b ≡ pos 0 -ℤ (dir.a *ℤ second -ℤ dir.b *ℤ first)
+      turned = across dir.a dir.b bound.a bound.b first second is.by is.a is.b
+
+      at_least : (x : ℤ) → (x <ℤ pos 0 → ⊥) → pos 0 ≤ℤ x
+      at_least (pos n) h = omega (arith, ints)
+      at_least (negsuc n) h = absurd (h (omega (arith, ints)))
+
+      left : pos 0 ≤ℤ cross dir.a dir.b bound.a bound.b
+      left = factor_not_negative is.by is.positive (rw reduced (at_least _ not_below))
+
+      behind : cross dir.a dir.b bound.a bound.b ≡ pos 0 → dot dir.a dir.b bound.a bound.b ≤ℤ pos 0
+      behind level =
+          let none : dir.a *ℤ first +ℤ dir.b *ℤ second ≡ pos 0 = sym reduced ∙ (ap (λ e. is.by *ℤ e) level ∙ *ℤ-zero is.by) in
+          let high = at_least _ (not_level none) in
+          factor_not_positive is.by is.positive (rw turned (omega (arith, ints)))
+
+-- where there is a bound
+pub bound_ahead : (dir : Dir) (first second : ℤ) (bound : Option Dir) → IfSome bound (IsBoundOf first second) → ((dir.a *ℤ first +ℤ dir.b *ℤ second) <ℤ pos 0 → ⊥) → (dir.a *ℤ first +ℤ dir.b *ℤ second ≡ pos 0 → (dir.a *ℤ second -ℤ dir.b *ℤ first) <ℤ pos 0 → ⊥) → IfSome bound (IsAhead dir)
+bound_ahead dir first second None is not_below not_level = is
+bound_ahead dir first second (Some bound) is not_below not_level = ahead_of_bound dir bound first second is not_below not_level

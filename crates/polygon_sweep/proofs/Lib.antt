@@ -1,5 +1,7 @@
 mod Angles
 mod Axes
+mod BasicValues
 mod Divisors
 mod Growing
 mod Ranks
+mod Shown

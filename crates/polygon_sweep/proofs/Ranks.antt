@@ -2,13 +2,14 @@
 -- slopes of numbers up to n differ by 1 / (n * n) at least, so that n * n times the slope, rounded down, rises too.
 use Rattle.std.proofs.Common.{◌≡◌, ◌⊎◌, inl, inr, subst, ℕ, zero, suc, ◌+◌, ◌-◌, ◌*◌, ◌/◌, ◌^◌, ◌<◌, ◌≤◌, ℤ, pos, negsuc, neg_ℤ, ◌+ℤ◌, ◌-ℤ◌, ◌*ℤ◌, ◌<ℤ◌, ◌≤ℤ◌, unsigned_abs, refl, arith}
 use Rattle.std.specs.Int.{IsGcd}
-use Rattle.std.proofs.Math.Nat.{div-mul-le_self, div-le_self, mul-le-mul_right, mul-le-mul_left, le_of_mul-le-mul_right}
+use Rattle.std.proofs.Math.Nat.{div-mul-le_self, div-le_self, mul-le-mul_right, mul-le-mul_left, le_of_dvd, le_of_mul-le-mul_right}
 use Rattle.std.proofs.lemmas.Nat.{le-div}
+use Rattle.std.proofs.lemmas.Nat.Gcd.{dvd-zero, dvd_refl}
 use Rattle.std.proofs.lemmas.Int.{ints}
 use Rattle.exact_algebra.proofs.Order.{at_most_or_above, factor_positive, product_not_negative}
 use Rattle.exact_algebra.proofs.RingTactic.{ring_laws, linear}
 use Rattle.plane_hull.specs.declared.directions.Dir.{Dir}
-use Rattle.polygon_sweep.specs.Turning.{cross, IsAxis, IsFullTurn, TurnsTo}
+use Rattle.polygon_sweep.specs.Turning.{cross, IsAxis, IsFullTurn, TurnsFrom, TurnsTo}
 
 -- ---- slopes of natural numbers up to n
 
@@ -154,3 +155,30 @@ rank_low n a b a_low b_low (second h k) = let low = slope_low n b (neg_ℤ a) (t
 rank_low n a b a_low b_low (third h k) = let low = slope_low n (neg_ℤ a) (neg_ℤ b) (turned_low n b b_low) in omega arith
 rank_low n a b a_low b_low (fourth h k) = let low = slope_low n (neg_ℤ b) a a_low in omega arith
 rank_low n a b a_low b_low (none h k) = omega arith
+
+-- ---- directions of narrow coprime numbers
+
+-- how far the rank may still rise, of numbers up to n
+abbrev left_up_to : (n : ℕ) → ℤ → ℤ → ℕ
+left_up_to n a b = 4 * quarter_rank n - rank_in n a b (quarter_of a b)
+
+one_of_gcd : (c : ℤ) → pos 0 <ℤ c → IsGcd (unsigned_abs c) 0 1 → c ≡ pos 1
+one_of_gcd c over divisor = let low = le_of_dvd (omega arith) (divisor.2 (unsigned_abs c) (dvd_refl (unsigned_abs c)) (dvd-zero (unsigned_abs c))) in omega (arith, ints)
+
+left_falls : (n : ℕ) (a b c d : ℤ) → unsigned_abs a ≤ n → unsigned_abs b ≤ n → unsigned_abs c ≤ n → unsigned_abs d ≤ n → TurnsFrom a b c d → (pos 0 <ℤ c → d ≡ pos 0 → ⊥) → left_up_to n c d < left_up_to n a b
+left_falls n a b c d a_low b_low c_low d_low turns short =
+    let rise = rises n a b c d a_low b_low c_low d_low turns.left turns.no_axis short (quarter_of a b) (quarter_of c d) in
+    let low = rank_low n c d c_low d_low (quarter_of c d) in
+    omega arith
+
+narrow_low : (a : ℤ) → unsigned_abs a < 2 ^ 62 → unsigned_abs a ≤ 2 ^ 62
+narrow_low a h = omega arith
+
+-- how far a direction's rank may still rise
+pub rank_left : Dir → ℕ
+rank_left dir = left_up_to (2 ^ 62) dir.a dir.b
+
+pub rank_falls : (dir next : Dir) → TurnsTo dir next → IsGcd (unsigned_abs next.a) (unsigned_abs next.b) 1 → (IsFullTurn next → ⊥) → rank_left next < rank_left dir
+unfolding rank_left
+rank_falls dir next turns coprime short = left_falls (2 ^ 62) dir.a dir.b next.a next.b (narrow_low dir.a dir.a_narrow) (narrow_low dir.b dir.b_narrow) (narrow_low next.a next.a_narrow) (narrow_low next.b next.b_narrow) turns
+    (λ over level. short (one_of_gcd next.a over (rw level at coprime), level))

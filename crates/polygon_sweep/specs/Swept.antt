@@ -1,7 +1,11 @@
--- The ranges of a polygon's corners and sides, as a tableau's narrow entries give them.
-use Rattle.std.specs.Prelude.{◌≡◌, ℕ, ◌<◌, ◌≤◌, length, All, pos, ◌<ℤ◌, unsigned_abs}
+-- A polygon's corners, each with a solution of the program that pays it, and its sides, with the ranges that a tableau's narrow
+-- entries give them.
+use Rattle.std.specs.Prelude.{◌≡◌, ℕ, ◌<◌, ◌≤◌, List, length, All, ℤ, pos, ◌<ℤ◌, unsigned_abs, slice_index_or}
 use Rattle.std.specs.Int.{IsGcd}
+use Rattle.corr_game.specs.declared.sides.Side.TheVariants.{One, Two}
 use Rattle.corr_num.specs.Narrow.{Narrow}
+use Rattle.lp_form.specs.Program.{LpView}
+use Rattle.lp_form.specs.Solutions.{IsSolution, paid}
 use Rattle.plane_hull.specs.declared.directions.Dir.{Dir}
 use Rattle.plane_hull.specs.declared.sides.SideRow.{SideRow}
 use Rattle.polygon_sweep.specs.declared.corners.SweptCorner.{SweptCorner}
@@ -11,14 +15,22 @@ use Rattle.polygon_sweep.specs.declared.corners.Swept.{Swept}
 abbrev pub IsCoprime : Dir → Type 0
 IsCoprime dir = IsGcd (unsigned_abs dir.a) (unsigned_abs dir.b) 1
 
--- a corner of a program with so many columns: narrow numerators over a positive denominator, one value a column
-pub record IsCornerOf (cols : ℕ) (corner : SweptCorner) : Type 0 where
+-- the number of each column
+abbrev pub number_in : List ℤ → ℕ → ℤ
+number_in values col = slice_index_or values col (pos 0)
+
+-- a corner of a program: narrow numerators over a positive denominator, one value a column; the values are a solution, and what
+-- it pays is the corner
+pub record IsCornerOf (lp : LpView) (corner : SweptCorner) : Type 0 where
   pub positive : pos 0 <ℤ corner.den
   pub den : Narrow corner.den
   pub one : Narrow corner.one
   pub two : Narrow corner.two
-  pub count : length corner.values ≡ cols
+  pub count : length corner.values ≡ lp.cols
   pub values : All Narrow corner.values
+  pub solution : IsSolution lp corner.den (number_in corner.values)
+  pub pays_one : corner.one ≡ paid lp One (number_in corner.values)
+  pub pays_two : corner.two ≡ paid lp Two (number_in corner.values)
 
 -- a side of a program with so many rows, wherever it stands: one narrow multiplier a row over a positive denominator
 pub record IsSideOf (rows : ℕ) (side : SideRow) : Type 0 where
@@ -38,9 +50,9 @@ IsSideAt rows corner side = IsSideOf rows side × (side.corner ≡ corner)
 abbrev pub IsSideAmong : ℕ → ℕ → SideRow → Type 0
 IsSideAmong rows corners side = IsSideOf rows side × (side.corner < corners)
 
--- at least one corner and one side, all of them in their ranges
-pub record IsSwept (rows cols : ℕ) (swept : Swept) : Type 0 where
+-- at least one corner and one side
+pub record IsSwept (lp : LpView) (swept : Swept) : Type 0 where
   pub a_corner : 1 ≤ length swept.corners
   pub a_side : 1 ≤ length swept.sides
-  pub corners : All (IsCornerOf cols) swept.corners
-  pub sides : All (IsSideAmong rows (length swept.corners)) swept.sides
+  pub corners : All (IsCornerOf lp) swept.corners
+  pub sides : All (IsSideAmong (length lp.rows) (length swept.corners)) swept.sides

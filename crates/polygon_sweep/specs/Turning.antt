@@ -14,10 +14,13 @@ dot a b c d = a *ℤ c +ℤ b *ℤ d
 abbrev pub IsAxis : ℤ → ℤ → Type 0
 IsAxis a b = ((a ≡ pos 1) × (b ≡ pos 0)) ⊎ (((a ≡ pos 0) × (b ≡ pos 1)) ⊎ (((a ≡ negsuc 0) × (b ≡ pos 0)) ⊎ ((a ≡ pos 0) × (b ≡ negsuc 0))))
 
--- the next direction lies to the left, and no axis lies between
-pub record TurnsTo (dir next : Dir) : Type 0 where
-  pub left : pos 0 <ℤ cross dir.a dir.b next.a next.b
-  pub no_axis : (a b : ℤ) → IsAxis a b → pos 0 <ℤ cross dir.a dir.b a b → pos 0 ≤ℤ cross next.a next.b a b
+-- (c, d) lies to the left of (a, b), and no axis lies between
+pub record TurnsFrom (a b c d : ℤ) : Type 0 where
+  pub left : pos 0 <ℤ cross a b c d
+  pub no_axis : (x y : ℤ) → IsAxis x y → pos 0 <ℤ cross a b x y → pos 0 ≤ℤ cross c d x y
+
+abbrev pub TurnsTo : Dir → Dir → Type 0
+TurnsTo dir next = TurnsFrom dir.a dir.b next.a next.b
 
 -- a bound isn't met before the direction itself: it lies to the left, or straight behind
 pub record IsAhead (dir bound : Dir) : Type 0 where
@@ -28,8 +31,8 @@ pub record IsAhead (dir bound : Dir) : Type 0 where
 pub record IsBoundOf (first second : ℤ) (bound : Dir) : Type 0 where
   pub by : ℤ
   pub positive : pos 0 <ℤ by
-  pub a : by *ℤ bound.a ≡ pos 0 -ℤ second
-  pub b : by *ℤ bound.b ≡ first
+  pub a : bound.a *ℤ by ≡ pos 0 -ℤ second
+  pub b : bound.b *ℤ by ≡ first
 
 -- the whole turn is done
 abbrev pub IsFullTurn : Dir → Type 0

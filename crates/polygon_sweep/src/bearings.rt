@@ -1,8 +1,11 @@
 // Where a turning direction stops next.
-ghost use Rattle.std.specs.Prelude.{◌≡◌, pos, ◌<ℤ◌, unsigned_abs, IfSome};
+ghost use Rattle.std.specs.Prelude.{◌≡◌, ◌↔◌, ℤ, pos, ◌<ℤ◌, ◌-ℤ◌, ◌*ℤ◌, unsigned_abs, IfSome, IsTrue};
 ghost use Rattle.std.specs.Int.{IsGcd};
 ghost use Rattle.corr_num.specs.Narrow.{Narrow};
 ghost use Rattle.polygon_sweep.specs.Swept.{IsCoprime};
+ghost use Rattle.polygon_sweep.specs.Turning.{IsAhead, IsBoundOf, TurnsTo, cross};
+ghost use Rattle.plane_hull.specs.declared.directions.Dir.{Dir};
+ghost use Rattle.bland_simplex.specs.Improving.{IsOptimal};
 ghost use Rattle.bland_simplex.specs.Open.{IsOpen};
 
 use bland_simplex::Shape;
@@ -13,18 +16,23 @@ use std::cmp::Ordering;
 
 /// The first axis that is met counter-clockwise behind this direction.
 fn axis_behind(dir: &Dir) -> Dir
-    ensures { IsCoprime result }
+    requires { IsCoprime dir.now }
+    ensures coprime { IsCoprime result }
+    ensures turns { TurnsTo dir.now result }
 {
-    if dir.a > 0 && dir.b >= 0 {
-        return Dir { a: 0, b: 1 };
-    }
     if dir.b > 0 {
+        if dir.a > 0 {
+            return Dir { a: 0, b: 1 };
+        }
         return Dir { a: -1, b: 0 };
     }
     if dir.a < 0 {
         return Dir { a: 0, b: -1 };
     }
-    Dir { a: 1, b: 0 }
+    if dir.b < 0 {
+        return Dir { a: 1, b: 0 };
+    }
+    Dir { a: 0, b: 1 }
 }
 
 /// The greatest common divisor of the magnitudes of two narrow numbers that aren't both 0.
@@ -43,7 +51,8 @@ fn direction_of(a: i128, b: i128) -> Dir
     requires a_narrow { Narrow a }
     requires b_narrow { Narrow b }
     requires not_both { a ≡ pos 0 → b ≡ pos 0 → ⊥ }
-    ensures { IsCoprime result }
+    ensures coprime { IsCoprime result }
+    ensures same { (by : ℤ) × (pos 0 <ℤ by) × (result.a *ℤ by ≡ a) × (result.b *ℤ by ≡ b) }
 {
     let divisor = common_divisor(a, b);
     Dir {
@@ -57,7 +66,8 @@ fn direction_of(a: i128, b: i128) -> Dir
 fn bound_of(first: i128, second: i128) -> Option<Dir>
     requires first { Narrow first }
     requires second { Narrow second }
-    ensures { IfSome result IsCoprime }
+    ensures coprime { IfSome result IsCoprime }
+    ensures bound { IfSome result (IsBoundOf first second) }
 {
     if first == 0 && second == 0 {
         None
@@ -67,7 +77,9 @@ fn bound_of(first: i128, second: i128) -> Option<Dir>
 }
 
 /// Whether one of two directions that are less than a half turn apart comes first counter-clockwise.
-fn is_before(one: &Dir, other: &Dir) -> bool {
+fn is_before(one: &Dir, other: &Dir) -> bool
+    ensures { IsTrue result ↔ (pos 0 <ℤ cross one.now.a one.now.b other.now.a other.now.b) }
+{
     cmp_products(one.a, other.b, one.b, other.a) == Ordering::Greater
 }
 
@@ -75,7 +87,8 @@ fn is_before(one: &Dir, other: &Dir) -> bool {
 fn first_met(bound: Option<Dir>, other: Dir) -> Dir
     requires bound { IfSome bound IsCoprime }
     requires other { IsCoprime other }
-    ensures { IsCoprime result }
+    ensures coprime { IsCoprime result }
+    ensures turns { (dir : Dir) → IfSome bound (IsAhead dir) → TurnsTo dir other → TurnsTo dir result }
 {
     let Some(bound) = bound else {
         return other;
@@ -91,7 +104,10 @@ fn first_met(bound: Option<Dir>, other: Dir) -> Dir
 /// The tableau is optimal for the direction and its left turn, so that each column's bound lies within a half turn.
 pub fn next_direction<T: Tableau>(table: &T, shape: Shape, dir: &Dir) -> Dir
     requires open { IsOpen shape.rows shape.cols (T.content table.now) }
-    ensures { IsCoprime result }
+    requires optimal { IsOptimal (T.content table.now) shape.rows shape.cols dir.now }
+    requires coprime { IsCoprime dir.now }
+    ensures coprime { IsCoprime result }
+    ensures turns { TurnsTo dir.now result }
 {
     let mut next = axis_behind(dir);
     for col in 0..shape.cols {

@@ -1,5 +1,7 @@
 // What a tableau shows: a corner with its solution, and the multipliers of a side.
-ghost use Rattle.std.specs.Prelude.{◌≡◌, ◌+◌, ◌<◌, ◌≤◌, IfOk, length, All};
+ghost use Rattle.std.specs.Prelude.{◌≡◌, ℕ, ◌+◌, ◌<◌, ◌≤◌, IfOk, length, All, cond, nat_eq, pos, slice_index_or};
+ghost use Rattle.exact_linear.specs.Simplex.{basic_value};
+ghost use Rattle.bland_simplex.specs.Ready.{IsReady};
 ghost use Rattle.bland_simplex.specs.Open.{IsOpen};
 ghost use Rattle.corr_num.specs.Narrow.{Narrow};
 ghost use Rattle.polygon_sweep.specs.Swept.{IsCoprime, IsCornerOf, IsSideAt};
@@ -8,7 +10,7 @@ use crate::corners::SweptCorner;
 use bland_simplex::Shape;
 use corr_num::cmp_products;
 use int_tableau::Tableau;
-use lp_form::NumList;
+use lp_form::{Lp, NumList};
 use plane_hull::{Dir, SideRow};
 use std::alloc::{AllocError as NoMemory, Global};
 use std::cmp::Ordering;
@@ -16,18 +18,33 @@ use std::cmp::Ordering;
 /// The right sides at the program's columns: of a basic column that of its row, of another 0.
 fn basic_values<T: Tableau>(alloc: Global, table: &T, shape: Shape) -> Result<Vec<i128>, NoMemory>
     requires open { IsOpen shape.rows shape.cols (T.content table.now) }
+    requires once { (k l : ℕ) → k < shape.rows → l < shape.rows → (T.content table.now).basic k ≡ (T.content table.now).basic l → k ≡ l }
     ensures count { IfOk result (λ values. length values.items ≡ shape.cols) }
     ensures narrow { IfOk result (λ values. All Narrow values.items) }
+    ensures basic { IfOk result (λ values. (col : ℕ) → col < shape.cols → slice_index_or values.items col (pos 0) ≡ basic_value shape.rows (T.content table.now).basic (λ k. (T.content table.now).entry k (shape.cols + shape.rows)) col) }
 {
-    let right = shape.cols + shape.rows;
     let mut values: Vec<i128> = vec![in alloc; 0; shape.cols as usize]?;
     for row in 0..shape.rows {
-        let col = table.basic(row);
-        if col < shape.cols {
-            values[col as usize] = table.entry(row, right);
-        }
+        put_value(table, shape, row, &mut values);
     }
     Ok(values)
+}
+
+/// Puts the right side of a row at its basic column, where that is one of the program's.
+fn put_value<T: Tableau>(table: &T, shape: Shape, row: u32, values: &mut Vec<i128>)
+    requires open { IsOpen shape.rows shape.cols (T.content table.now) }
+    requires in_rows { row < shape.rows }
+    requires count { length values.old.items ≡ shape.cols }
+    requires narrow { All Narrow values.old.items }
+    ensures count { length values.new.items ≡ length values.old.items }
+    ensures narrow { All Narrow values.new.items }
+    ensures put { (col : ℕ) → col < shape.cols → slice_index_or values.new.items col (pos 0) ≡ cond (nat_eq ((T.content table.now).basic row) col) ((T.content table.now).entry row (shape.cols + shape.rows)) (slice_index_or values.old.items col (pos 0)) }
+{
+    let col = table.basic(row);
+    if col >= shape.cols {
+        return;
+    }
+    values[col as usize] = table.entry(row, shape.cols + shape.rows);
 }
 
 fn listed(alloc: Global, values: &[i128]) -> Result<NumList, NoMemory>
@@ -41,14 +58,11 @@ fn listed(alloc: Global, values: &[i128]) -> Result<NumList, NoMemory>
 }
 
 /// The corner that the tableau's basic solution reaches.
-pub fn corner_at<T: Tableau>(
-    alloc: Global,
-    table: &T,
-    shape: Shape,
-) -> Result<SweptCorner, NoMemory>
-    requires open { IsOpen shape.rows shape.cols (T.content table.now) }
-    ensures { IfOk result (IsCornerOf shape.cols) }
+pub fn corner_at<T: Tableau>(alloc: Global, lp: &Lp, table: &T) -> Result<SweptCorner, NoMemory>
+    requires { IsReady lp.now (T.content table.now) }
+    ensures { IfOk result (IsCornerOf lp.now) }
 {
+    let shape = Shape::of(lp);
     let right = shape.cols + shape.rows;
     let values = basic_values(alloc, table, shape)?;
     Ok(SweptCorner {
@@ -62,7 +76,9 @@ pub fn corner_at<T: Tableau>(
 /// Whether the tableau's basic solution reaches the same payoffs as this corner.
 pub fn reaches<T: Tableau>(table: &T, shape: Shape, corner: &SweptCorner) -> bool
     requires open { IsOpen shape.rows shape.cols (T.content table.now) }
-    requires corner { IsCornerOf shape.cols corner.now }
+    requires one { Narrow corner.now.one }
+    requires two { Narrow corner.now.two }
+    requires den { Narrow corner.now.den }
 {
     let right = shape.cols + shape.rows;
     let den = table.denom();

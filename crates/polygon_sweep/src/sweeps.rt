@@ -1,11 +1,15 @@
-ghost use Rattle.std.specs.Prelude.{◌≡◌, ℕ, ◌<◌, OnOk, IfOk, length};
-ghost use Rattle.bland_simplex.specs.Open.{IsOpen, IsOpenFor};
+ghost use Rattle.std.specs.Prelude.{◌≡◌, ◌↔◌, ℕ, ◌<◌, OnOk, IfOk, IsTrue, length};
+ghost use Rattle.lp_form.specs.Program.{LpView};
+ghost use Rattle.lp_form.specs.Solutions.{HasBoundedPayoffs};
+ghost use Rattle.bland_simplex.specs.Improving.{IsOptimal};
+ghost use Rattle.bland_simplex.specs.Ready.{IsReady};
 ghost use Rattle.polygon_sweep.specs.Swept.{IsCoprime, IsCornerOf, IsSideAmong, IsSwept};
+ghost use Rattle.polygon_sweep.specs.Turning.{IsFullTurn};
 
 use crate::bearings::next_direction;
 use crate::corners::{CornerList, Swept, SweptCorner};
 use crate::readings::{corner_at, reaches, side_at};
-use bland_simplex::{Shape, TURNS, best};
+use bland_simplex::{Shape, best};
 use int_tableau::{PivotEnd, Tableau};
 use lp_form::Lp;
 use plane_hull::{Dir, SideList, SideRow};
@@ -15,17 +19,20 @@ fn is_axis(dir: &Dir) -> bool {
     dir.a == 0 || dir.b == 0
 }
 
-fn is_full_turn(dir: &Dir) -> bool {
+fn is_full_turn(dir: &Dir) -> bool
+    ensures { IsTrue result ↔ IsFullTurn dir.now }
+{
     dir.a == 1 && dir.b == 0
 }
 
 /// The first corner with its first side, in a tableau that is optimal for (1, 0).
-fn begin<T: Tableau>(alloc: Global, table: &T, shape: Shape) -> Result<Swept, NoMemory>
-    requires open { IsOpen shape.rows shape.cols (T.content table.now) }
-    ensures { IfOk result (IsSwept shape.rows shape.cols) }
+fn begin<T: Tableau>(alloc: Global, lp: &Lp, table: &T) -> Result<Swept, NoMemory>
+    requires { IsReady lp.now (T.content table.now) }
+    ensures { IfOk result (IsSwept lp.now) }
 {
+    let shape = Shape::of(lp);
     let mut corners = CornerList::new(alloc);
-    corners.push(corner_at(alloc, table, shape)?)?;
+    corners.push(corner_at(alloc, lp, table)?)?;
     let mut sides = SideList::new(alloc);
     sides.push(side_at(alloc, table, shape, Dir { a: 1, b: 0 }, 0)?)?;
     Ok(Swept { corners, sides })
@@ -33,7 +40,7 @@ fn begin<T: Tableau>(alloc: Global, table: &T, shape: Shape) -> Result<Swept, No
 
 fn add_corner(swept: &mut Swept, corner: SweptCorner) -> Result<usize, NoMemory>
     ensures last { IfOk result (λ k. (k < length swept.new.corners) × (length swept.old.corners < length swept.new.corners)) }
-    ensures kept { OnOk result ((rows cols : ℕ) → IsSwept rows cols swept.old → IsCornerOf cols corner → IsSwept rows cols swept.new) }
+    ensures kept { OnOk result ((lp : LpView) → IsSwept lp swept.old → IsCornerOf lp corner → IsSwept lp swept.new) }
 {
     let last = swept.corners.len();
     swept.corners.push(corner)?;
@@ -42,7 +49,7 @@ fn add_corner(swept: &mut Swept, corner: SweptCorner) -> Result<usize, NoMemory>
 
 fn add_side(swept: &mut Swept, side: SideRow) -> Result<(), NoMemory>
     ensures corners { OnOk result (swept.new.corners ≡ swept.old.corners) }
-    ensures kept { OnOk result ((rows cols : ℕ) → IsSwept rows cols swept.old → IsSideAmong rows (length swept.old.corners) side → IsSwept rows cols swept.new) }
+    ensures kept { OnOk result ((lp : LpView) → IsSwept lp swept.old → IsSideAmong (length lp.rows) (length swept.old.corners) side → IsSwept lp swept.new) }
 {
     swept.sides.push(side)?;
     Ok(())
@@ -51,25 +58,26 @@ fn add_side(swept: &mut Swept, side: SideRow) -> Result<(), NoMemory>
 /// The number of the corner that the tableau reaches, which is added unless it is the present one or the first.
 fn arrive<T: Tableau>(
     alloc: Global,
+    lp: &Lp,
     table: &T,
-    shape: Shape,
     present: usize,
     swept: &mut Swept,
 ) -> Result<usize, NoMemory>
-    requires open { IsOpen shape.rows shape.cols (T.content table.now) }
+    requires ready { IsReady lp.now (T.content table.now) }
     requires present { present < length swept.old.corners }
-    requires before { IsSwept shape.rows shape.cols swept.old }
+    requires before { IsSwept lp.now swept.old }
     ensures present { OnOk result (present < length swept.new.corners) }
     ensures reached { IfOk result (λ k. k < length swept.new.corners) }
-    ensures after { OnOk result (IsSwept shape.rows shape.cols swept.new) }
+    ensures after { OnOk result (IsSwept lp.now swept.new) }
 {
+    let shape = Shape::of(lp);
     if reaches(table, shape, swept.corners.at(present)) {
         return Ok(present);
     }
     if reaches(table, shape, swept.corners.at(0)) {
         return Ok(0);
     }
-    let last = add_corner(swept, corner_at(alloc, table, shape)?)?;
+    let last = add_corner(swept, corner_at(alloc, lp, table)?)?;
     Ok(last)
 }
 
@@ -84,18 +92,20 @@ fn turn<T: Tableau>(
     present: usize,
     swept: &mut Swept,
 ) -> Result<usize, PivotEnd>
-    requires open { IsOpenFor lp.now (T.content table.old) }
+    requires ready { IsReady lp.now (T.content table.old) }
+    requires bounded { HasBoundedPayoffs lp.now }
     requires coprime { IsCoprime dir }
     requires present { present < length swept.old.corners }
-    requires before { IsSwept (length lp.now.rows) lp.now.cols swept.old }
-    ensures open { OnOk result (IsOpenFor lp.now (T.content table.new)) }
+    requires before { IsSwept lp.now swept.old }
+    ensures ready { OnOk result (IsReady lp.now (T.content table.new)) }
+    ensures optimal { OnOk result (IsOptimal (T.content table.new) (length lp.now.rows) lp.now.cols dir) }
     ensures reached { IfOk result (λ k. k < length swept.new.corners) }
-    ensures after { OnOk result (IsSwept (length lp.now.rows) lp.now.cols swept.new) }
+    ensures after { OnOk result (IsSwept lp.now swept.new) }
 {
     let shape = Shape::of(lp);
     let side = side_at(alloc, table, shape, dir, present)?;
     best(lp, table, &dir)?;
-    let reached = arrive(alloc, table, shape, present, swept)?;
+    let reached = arrive(alloc, lp, table, present, swept)?;
     if reached == present && !is_axis(&dir) {
         return Ok(present);
     }
@@ -110,20 +120,21 @@ fn turn<T: Tableau>(
 /// Adds the last side, where an edge leads from the present corner to the first one.
 fn close<T: Tableau>(
     alloc: Global,
+    lp: &Lp,
     table: &T,
-    shape: Shape,
     present: usize,
     swept: Swept,
 ) -> Result<Swept, NoMemory>
-    requires open { IsOpen shape.rows shape.cols (T.content table.now) }
+    requires ready { IsReady lp.now (T.content table.now) }
     requires present { present < length swept.corners }
-    requires before { IsSwept shape.rows shape.cols swept }
-    ensures { IfOk result (IsSwept shape.rows shape.cols) }
+    requires before { IsSwept lp.now swept }
+    ensures { IfOk result (IsSwept lp.now) }
 {
     if present == 0 {
         return Ok(swept);
     }
     let mut swept = swept;
+    let shape = Shape::of(lp);
     add_side(
         &mut swept,
         side_at(alloc, table, shape, Dir { a: 1, b: 0 }, present)?,
@@ -136,20 +147,21 @@ fn close<T: Tableau>(
 /// Corners are in scaled payoffs; the sides stand in the order of the belt: all axes, and each edge's direction at both of
 /// its ends.
 pub fn sweep<T: Tableau>(alloc: Global, lp: &Lp, table: &mut T) -> Result<Swept, PivotEnd>
-    requires { IsOpenFor lp.now (T.content table.old) }
-    ensures swept { IfOk result (IsSwept (length lp.now.rows) lp.now.cols) }
+    requires ready { IsReady lp.now (T.content table.old) }
+    requires bounded { HasBoundedPayoffs lp.now }
+    ensures swept { IfOk result (IsSwept lp.now) }
 {
     let shape = Shape::of(lp);
     let mut dir = Dir { a: 1, b: 0 };
     best(lp, table, &dir)?;
-    let mut swept = begin(alloc, table, shape)?;
+    let mut swept = begin(alloc, lp, table)?;
     let mut present = 0;
-    for _ in 0..TURNS {
-        dir = next_direction(table, shape, &dir);
-        if is_full_turn(&dir) {
-            return Ok(close(alloc, table, shape, present, swept)?);
+    loop {
+        let next = next_direction(table, shape, &dir);
+        if is_full_turn(&next) {
+            return Ok(close(alloc, lp, table, present, swept)?);
         }
-        present = turn(alloc, lp, table, dir, present, &mut swept)?;
+        present = turn(alloc, lp, table, next, present, &mut swept)?;
+        dir = next;
     }
-    Err(PivotEnd::NotBuilt)
 }

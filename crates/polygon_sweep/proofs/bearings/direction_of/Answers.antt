@@ -6,7 +6,7 @@ use Rattle.polygon_sweep.proofs.Divisors.{AreReduced, reduced}
 use Rattle.polygon_sweep.proofs.bearings.direction_of.Goals as goal
 use Rattle.polygon_sweep.proofs.bearings.direction_of.Goals.{After-quotient-2}
 
-parts : (c : After-quotient-2) → AreReduced c.args.a c.args.b c.quotient.result c.quotient-2.result
+parts : (c : After-quotient-2) → AreReduced c.args.a c.args.b c.common_divisor-divisor.result c.quotient.result c.quotient-2.result
 parts c =
     let a_fits = c.ranges.a in
     let b_fits = c.ranges.b in
@@ -36,4 +36,4 @@ returns c =
     let a_is = simp to_z-of_z at c.quotient.ensures.rounded in
     let b_is = simp to_z-of_z at c.quotient-2.ensures.rounded in
     let p = reduced c.args.a c.args.b c.common_divisor-divisor.result c.quotient.result c.quotient-2.result above divisor a_is b_is in
-    simp to_z-of_z p.coprime
+    simp to_z-of_z (record { coprime = p.coprime; same = (c.common_divisor-divisor.result, above, p.a_back, p.b_back) })

@@ -4,4 +4,4 @@ use Rattle.polygon_sweep.proofs.Growing.{with_side}
 use Rattle.polygon_sweep.proofs.sweeps.add_side.Goals as goal
 
 pub returns-clause-kept : goal.returns-clause-kept
-returns-clause-kept c = λ rows cols swept is. with_side rows cols c.args.swept.now _ c.args.side refl c.in_ok-push.ensures.ok swept is
+returns-clause-kept c = λ lp swept is. with_side lp c.args.swept.now _ c.args.side refl c.in_ok-push.ensures.ok swept is

@@ -2,4 +2,4 @@
 use Rattle.polygon_sweep.proofs.sweeps.arrive.Goals as goal
 
 pub returns-clause-after : goal.returns-clause-after
-returns-clause-after g c = c.in_ok-last.ensures.kept _ _ c.requires.before c.in_ok-corner_at.ensures
+returns-clause-after g c = c.in_ok-last.ensures.kept _ c.requires.before c.in_ok-corner_at.ensures

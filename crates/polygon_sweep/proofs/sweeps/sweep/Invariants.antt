@@ -1,11 +1,19 @@
--- The tableau may go on, the present corner is one of those found, and all numbers are in their ranges.
-use Rattle.std.proofs.Common.{◌<◌, length}
-use Rattle.bland_simplex.specs.Open.{IsOpenFor}
-use Rattle.polygon_sweep.specs.Swept.{IsSwept}
+-- The tableau is ready and optimal for the direction, the present corner is one of those found, and what was found is a part of the
+-- polygon's belt. Each turn raises the direction's rank.
+use Rattle.std.proofs.Common.{◌-◌, ◌*◌, ◌^◌, ◌<◌, length}
+use Rattle.bland_simplex.specs.Improving.{IsOptimal}
+use Rattle.bland_simplex.specs.Ready.{IsReady}
+use Rattle.polygon_sweep.specs.Swept.{IsCoprime, IsSwept}
+use Rattle.polygon_sweep.proofs.Ranks.{rank_left}
 use Rattle.polygon_sweep.proofs.sweeps.sweep.Given as goal
 
-abbrev pub invariant-loop : goal.invariant-loop
-invariant-loop g l =
-    IsOpenFor l.lp (g.T.Tableau.content l.table)
+abbrev pub invariant-loop-shape : goal.invariant-loop-shape
+invariant-loop-shape g l =
+    IsReady l.lp (g.T.Tableau.content l.table)
+    × IsOptimal (g.T.Tableau.content l.table) (length l.lp.rows) l.lp.cols l.dir
+    × IsCoprime l.dir
     × (l.present < length l.swept.corners)
-    × IsSwept (length l.lp.rows) l.lp.cols l.swept
+    × IsSwept l.lp l.swept
+
+abbrev pub decreases-loop-shape : goal.decreases-loop-shape
+decreases-loop-shape g l = rank_left l.dir
