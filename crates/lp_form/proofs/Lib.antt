@@ -1,3 +1,4 @@
+pub mod Bounding
 pub mod Joining
 pub mod Placing
 pub mod Solving

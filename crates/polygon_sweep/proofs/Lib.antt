@@ -3,5 +3,6 @@ mod Axes
 mod BasicValues
 mod Divisors
 mod Growing
+mod Mixtures
 mod Ranks
 mod Shown

@@ -1,5 +1,6 @@
 ghost use Rattle.std.specs.Prelude.{◌≡◌, ◌<◌, ◌+◌, pos, length, IfOk, IfSome};
 ghost use Rattle.bland_simplex.specs.Open.{IsProgram};
+ghost use Rattle.lp_form.specs.Solutions.{HasBoundedPayoffs};
 
 use crate::{Swept, sweep};
 use bland_simplex::{Found, feasible};
@@ -13,6 +14,7 @@ use std::process::Abort;
 fn mixtures(alloc: Global, points: &[(i64, i64)]) -> Result<Lp, AllocError>
     requires { length points.now < 100 }
     ensures program { IfOk result IsProgram }
+    ensures bounded { IfOk result HasBoundedPayoffs }
 {
     let mut lp = Lp::new(alloc, 1, points.len() as u32)?;
     lp.set_right(0, 1);
