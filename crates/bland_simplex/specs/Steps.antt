@@ -5,7 +5,7 @@ use Rattle.lp_form.specs.Program.{LpView}
 use Rattle.lp_form.specs.declared.places.Place.{Place}
 use Rattle.plane_hull.specs.declared.directions.Dir.{Dir}
 use Rattle.int_tableau.specs.declared.ends.PivotEnd.{PivotEnd}
-use Rattle.int_tableau.specs.declared.ends.PivotEnd.TheVariants.{Wide, NoMemory, NotBuilt}
+use Rattle.int_tableau.specs.declared.ends.PivotEnd.TheVariants.{Wide, NoMemory}
 use Rattle.int_tableau.specs.Content.{Content}
 use Rattle.int_tableau.specs.Pivot.{IsPivoted, EndsWide}
 use Rattle.bland_simplex.specs.Driven.{DrivesOut}
@@ -62,4 +62,3 @@ pub record StepsLeadToBasis (Step : Content → ℕ → ℕ → Type 0) (first n
 abbrev pub StepsEnd : (Content → ℕ → ℕ → Type 0) → Content → Content → PivotEnd → Type 0
 StepsEnd Step first new (Wide place) = StepsLeadWide Step first new place
 StepsEnd Step first new NoMemory = StepsLeadToBasis Step first new
-StepsEnd Step first new NotBuilt = ⊥

@@ -1,5 +1,5 @@
 ghost use Rattle.std.specs.Prelude.{◌≡◌, ◌≢◌, ◌+◌, MatchOption, IfOk, IfErr, OnOk, length, true, false};
-ghost use Rattle.int_tableau.specs.declared.ends.PivotEnd.TheVariants.{NoMemory, NotBuilt};
+ghost use Rattle.int_tableau.specs.declared.ends.PivotEnd.TheVariants.{NoMemory};
 ghost use Rattle.int_tableau.specs.Start.{IsStart};
 ghost use Rattle.int_tableau.specs.Content.{IsTableau};
 ghost use Rattle.bland_simplex.specs.Open.{IsOpen, IsProgram};
@@ -116,7 +116,6 @@ pub fn feasible<T: Tableau>(alloc: Global, lp: &Lp, table: &mut T) -> Result<Fou
     ensures exactly { IfOk result (IsTrueOf lp.now) }
     ensures steps { OnOk result (StepsLead (IsFirstStep lp.now) (T.content table.old) (T.content table.new)) }
     ensures end { IfErr result (StepsEnd (IsFirstStep lp.now) (T.content table.old) (T.content table.new)) }
-    ensures built { IfErr result (λ end. end ≢ NotBuilt) }
 {
     let shape = Shape::of(lp);
     let list = NumList::with_capacity(alloc, shape.rows as usize)?;

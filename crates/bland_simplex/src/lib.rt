@@ -15,7 +15,7 @@ mod turning;
 pub use first_phase::{Found, feasible};
 pub use lp_form::NumList;
 pub use plane_hull::Dir;
-pub use shapes::{Shape, TURNS};
+pub use shapes::Shape;
 pub use turning::best;
 
 #[cfg(test)]

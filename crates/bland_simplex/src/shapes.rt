@@ -2,9 +2,6 @@ ghost use Rattle.std.specs.Prelude.{◌≡◌, length};
 
 use lp_form::Lp;
 
-/// How many turns a run may take. Each run ends long before.
-pub const TURNS: u64 = 1 << 40;
-
 /// How many rows and columns a program has.
 #[derive(Clone, Copy)]
 pub struct Shape {

@@ -1,6 +1,5 @@
 ghost use Rattle.std.specs.Prelude.{◌≢◌, ◌↔◌, IsTrue, ◌<◌, MatchOption, IfErr, OnOk, length};
 ghost use Rattle.lp_form.specs.Solutions.{HasBoundedPayoffs};
-ghost use Rattle.int_tableau.specs.declared.ends.PivotEnd.TheVariants.{NotBuilt};
 ghost use Rattle.bland_simplex.specs.Open.{IsOpen};
 ghost use Rattle.bland_simplex.specs.Greatest.{IsGreatest};
 ghost use Rattle.bland_simplex.specs.Improving.{Improves, IsOptimal};
@@ -56,7 +55,6 @@ pub fn best<T: Tableau>(lp: &Lp, table: &mut T, dir: &Dir) -> Result<(), PivotEn
     ensures optimal { OnOk result (IsOptimal (T.content table.new) (length lp.now.rows) lp.now.cols dir.now) }
     ensures steps { OnOk result (StepsLead (IsTurning lp.now dir.now) (T.content table.old) (T.content table.new)) }
     ensures end { IfErr result (StepsEnd (IsTurning lp.now dir.now) (T.content table.old) (T.content table.new)) }
-    ensures built { IfErr result (λ end. end ≢ NotBuilt) }
 {
     let shape = Shape::of(lp);
     while let Some(col) = improving(table, shape, dir) {

@@ -5,7 +5,7 @@ use Rattle.corr_num.specs.Quotient.{IsQuotient}
 use Rattle.exact_linear.specs.Pivot.{turned}
 use Rattle.lp_form.specs.declared.places.Place.{Place}
 use Rattle.int_tableau.specs.declared.ends.PivotEnd.{PivotEnd}
-use Rattle.int_tableau.specs.declared.ends.PivotEnd.TheVariants.{Wide as WideAt, NoMemory, NotBuilt}
+use Rattle.int_tableau.specs.declared.ends.PivotEnd.TheVariants.{Wide as WideAt, NoMemory}
 use Rattle.int_tableau.specs.Content.{Content, IsNamed}
 
 -- the row at which it pivots, with its signs turned where the entry in the pivot's column is negative
@@ -56,4 +56,3 @@ abbrev pub PivotAnswer : Content → Content → ℕ → ℕ → Result Unit Piv
 PivotAnswer old new row col (Ok done) = IsPivoted old new row col
 PivotAnswer old new row col (Err (WideAt place)) = EndsWide old new row col place
 PivotAnswer old new row col (Err NoMemory) = EndsShort old new
-PivotAnswer old new row col (Err NotBuilt) = ⊥

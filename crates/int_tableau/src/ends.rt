@@ -7,8 +7,6 @@ pub enum PivotEnd {
     /// The pivoted matrix has an entry of magnitude 2^62 or more here.
     Wide(Place),
     NoMemory,
-    /// Interim: the turns that a run may take ran out. It goes once the runs are proved to end by themselves.
-    NotBuilt,
 }
 
 impl From<AllocError> for PivotEnd {
