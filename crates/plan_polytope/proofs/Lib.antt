@@ -1,4 +1,3 @@
-pub mod Bounding
 pub mod Columns
 pub mod Counting
 pub mod Equations

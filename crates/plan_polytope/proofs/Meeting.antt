@@ -14,7 +14,7 @@ use Rattle.connected_pairs.specs.Connected.{PairsView}
 use Rattle.connected_pairs.specs.CorrelationRows.{value_at, value_of}
 use Rattle.plan_polytope.specs.CorrelationRow.{column_of}
 use Rattle.plan_polytope.specs.Solutions.{SolutionsMeetRows}
-use Rattle.plan_polytope.proofs.Bounding.{bounded_by_total}
+use Rattle.lp_form.proofs.Bounding.{bounded_by_total}
 use Rattle.plan_polytope.proofs.Equations.{IsPolytope, meets_equations, number_at}
 use Rattle.plan_polytope.proofs.NoneAbove.{at_most_total}
 use Rattle.plan_polytope.proofs.Units.{at}
