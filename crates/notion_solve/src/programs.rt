@@ -1,4 +1,7 @@
-ghost use Rattle.std.specs.Prelude.{◌≡◌, ◌≤◌, ℕ, length, IfOk};
+ghost use Rattle.std.specs.Prelude.{◌≡◌, ◌≤◌, ◌<◌, ℕ, ℤ, List, pos, slice_index_or, length, IfOk};
+ghost use Rattle.lp_form.specs.Solutions.{HasBoundedPayoffs, IsSolution};
+ghost use Rattle.connected_pairs.specs.CorrelationRows.{MeetsRows, value_of};
+ghost use Rattle.corr_game.specs.declared.sides.Side.TheVariants.{One};
 ghost use Rattle.connected_pairs.specs.Connected.{IsPairsOf};
 ghost use Rattle.incentive_rows.specs.Size.{HasSize};
 ghost use Rattle.bland_simplex.specs.Open.{IsProgram};
@@ -19,6 +22,10 @@ pub fn program(alloc: Global, game: &Game, pairs: &Pairs, notion: Notion) -> Res
     ensures narrow { IfOk result (λ lp. StartsNarrow lp) }
     ensures pair_columns { IfOk result (λ lp. length pairs.now.pairs ≤ lp.cols) }
     ensures few_columns { IfOk result (λ lp. lp.cols ≤ 8192) }
+    ensures bounded { IfOk result (λ lp. HasBoundedPayoffs lp) }
+    ensures meets { IfOk result (λ lp. (values : List ℤ) (total : ℤ) (x : ℕ → ℤ) → length values ≡ length pairs.now.pairs
+        → ((k : ℕ) → k < length pairs.now.pairs → slice_index_or values k (pos 0) ≡ x k) → IsSolution lp total x
+        → MeetsRows pairs.now values × (value_of pairs.now values One 0 0 ≡ total)) }
 {
     let base = polytope(alloc, game, pairs)?;
     let more = incentives(alloc, game, pairs, notion)?;
