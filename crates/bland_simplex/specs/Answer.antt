@@ -12,7 +12,8 @@ use Rattle.bland_simplex.specs.Ready.{IsReady}
 -- solution
 abbrev pub FoundFor : LpView → Content → Found → Type 0
 FoundFor lp t Start = IsReady lp t
-FoundFor lp t (Empty multipliers) = IsStuck (length lp.rows) lp.cols t × AreMultipliers (length lp.rows) lp.cols t multipliers × ShowEmpty lp multipliers
+FoundFor lp t (Empty multipliers) =
+    IsStuck (length lp.rows) lp.cols t × AreMultipliers (length lp.rows) lp.cols t multipliers × ShowEmpty lp multipliers
 
 -- the program has a solution, over some total above 0
 abbrev pub HasSolution : LpView → Type 0

@@ -21,5 +21,7 @@ pub record IsGreatest (lp : LpView) (t : Content) (dir : Dir) : Type 0 where
   pub solution : IsSolution lp t.denom own
   pub own_along : paid_along lp dir own ≡ reduced t (length lp.rows) dir (lp.cols + length lp.rows)
   pub own_left : paid_left lp dir own ≡ reduced_left t (length lp.rows) dir (lp.cols + length lp.rows)
-  pub along : (total : ℤ) (x : ℕ → ℤ) → pos 0 <ℤ total → IsSolution lp total x → (t.denom *ℤ paid_along lp dir x) ≤ℤ (total *ℤ paid_along lp dir own)
-  pub left : (total : ℤ) (x : ℕ → ℤ) → pos 0 <ℤ total → IsSolution lp total x → t.denom *ℤ paid_along lp dir x ≡ total *ℤ paid_along lp dir own → (t.denom *ℤ paid_left lp dir x) ≤ℤ (total *ℤ paid_left lp dir own)
+  pub along : (total : ℤ) (x : ℕ → ℤ) → pos 0 <ℤ total → IsSolution lp total x →
+      (t.denom *ℤ paid_along lp dir x) ≤ℤ (total *ℤ paid_along lp dir own)
+  pub left : (total : ℤ) (x : ℕ → ℤ) → pos 0 <ℤ total → IsSolution lp total x →
+      t.denom *ℤ paid_along lp dir x ≡ total *ℤ paid_along lp dir own → (t.denom *ℤ paid_left lp dir x) ≤ℤ (total *ℤ paid_left lp dir own)

@@ -39,7 +39,8 @@ pub record IsTurning (lp : LpView) (dir : Dir) (t : Content) (row col : ℕ) : T
 -- pivots that are such steps lead from one tableau to another
 pub data StepsLead (Step : Content → ℕ → ℕ → Type 0) (first : Content) : Content → Type 0 where
   stays : StepsLead Step first first
-  goes : (last next : Content) (row col : ℕ) → StepsLead Step first last → Step last row col → IsPivoted last next row col → StepsLead Step first next
+  goes : (last next : Content) (row col : ℕ) →
+      StepsLead Step first last → Step last row col → IsPivoted last next row col → StepsLead Step first next
 
 -- the last of such steps leads to a basis whose tableau is wide at the place
 pub record StepsLeadWide (Step : Content → ℕ → ℕ → Type 0) (first new : Content) (place : Place) : Type 0 where

@@ -1,7 +1,7 @@
 // Artificial columns are driven out of the basis.
-ghost use Rattle.std.specs.Prelude.{◌≡◌, ◌<◌, ◌≤◌, pos, true, MatchOption, IfErr, IfSome, IsSome, OnOk, None, ℕ};
+ghost use Rattle.std.specs.Prelude.{◌≡◌, ◌<◌, ◌≤◌, true, IfErr, IfSome, IsSome, OnOk, None};
 ghost use Rattle.bland_simplex.specs.Open.{IsOpen};
-ghost use Rattle.bland_simplex.specs.Driven.{IsDriven, DrivesOut};
+ghost use Rattle.bland_simplex.specs.Driven.{IsDriven, IsZeroRow, DrivesOut, FindsOut};
 ghost use Rattle.bland_simplex.specs.Ready.{IsLowered, IsReady};
 ghost use Rattle.bland_simplex.specs.Steps.{IsFirstStep, StepsLead, StepsEnd};
 
@@ -36,7 +36,7 @@ fn smaller_in_row<T: Tableau>(
     requires row { row < shape.rows }
     requires artificial { shape.cols ≤ (T.content table.now).basic row }
     requires best { IfSome best (λ c. DrivesOut (T.content table.now) shape.rows shape.cols c.row c.col) }
-    ensures { MatchOption result ((best ≡ None) × ((col : ℕ) → col < shape.cols → (T.content table.now).entry row col ≡ pos 0)) (λ c. DrivesOut (T.content table.now) shape.rows shape.cols c.row c.col) }
+    ensures { FindsOut (T.content table.now) shape.rows shape.cols ((best ≡ None) × IsZeroRow (T.content table.now) shape.cols row) result }
 {
     let mut least = best;
     for col in 0..shape.cols {
@@ -62,7 +62,7 @@ fn smaller_in_row<T: Tableau>(
 /// The first entry of least magnitude, by row and column, in the rows with basic artificial columns and the program's columns.
 fn smallest<T: Tableau>(table: &T, shape: Shape) -> Option<Candidate>
     requires { IsOpen shape.rows shape.cols (T.content table.now) }
-    ensures { MatchOption result (IsDriven (T.content table.now) shape.rows shape.cols) (λ c. DrivesOut (T.content table.now) shape.rows shape.cols c.row c.col) }
+    ensures { FindsOut (T.content table.now) shape.rows shape.cols (IsDriven (T.content table.now) shape.rows shape.cols) result }
 {
     let mut least: Option<Candidate> = None;
     for row in 0..shape.rows {

@@ -1,9 +1,9 @@
-ghost use Rattle.std.specs.Prelude.{◌≡◌, ◌≢◌, ◌+◌, MatchOption, IfOk, IfErr, OnOk, length, true, false};
+ghost use Rattle.std.specs.Prelude.{◌≡◌, ◌+◌, IfOk, IfErr, OnOk, length, true, false};
 ghost use Rattle.int_tableau.specs.declared.ends.PivotEnd.TheVariants.{NoMemory};
 ghost use Rattle.int_tableau.specs.Start.{IsStart};
 ghost use Rattle.int_tableau.specs.Content.{IsTableau};
 ghost use Rattle.bland_simplex.specs.Open.{IsOpen, IsProgram};
-ghost use Rattle.bland_simplex.specs.Order.{IsFirst, AreNone};
+ghost use Rattle.bland_simplex.specs.Order.{AreNone, FindsFirst};
 ghost use Rattle.bland_simplex.specs.Ready.{IsUnderWay, IsLowered};
 ghost use Rattle.bland_simplex.specs.Multipliers.{IsStuck, AreMultipliers};
 ghost use Rattle.bland_simplex.specs.Lowering.{Lowers};
@@ -30,7 +30,7 @@ pub enum Found {
 /// The first column of the program, in the fixed order, that is negative in Phase.
 fn entering_program<T: Tableau>(table: &T, shape: Shape) -> Option<u32>
     requires { IsOpen shape.rows shape.cols (T.content table.now) }
-    ensures { MatchOption result (AreNone shape.cols (Lowers (T.content table.now) shape.rows)) (IsFirst shape.cols shape.cols (Lowers (T.content table.now) shape.rows)) }
+    ensures { FindsFirst shape.cols shape.cols (Lowers (T.content table.now) shape.rows) result }
 {
     for behind in 0..shape.cols {
         let col = shape.cols - 1 - behind;
@@ -45,7 +45,7 @@ fn entering_program<T: Tableau>(table: &T, shape: Shape) -> Option<u32>
 fn entering_artificial<T: Tableau>(table: &T, shape: Shape) -> Option<u32>
     requires open { IsOpen shape.rows shape.cols (T.content table.now) }
     requires program { AreNone shape.cols (Lowers (T.content table.now) shape.rows) }
-    ensures { MatchOption result (AreNone (shape.cols + shape.rows) (Lowers (T.content table.now) shape.rows)) (IsFirst shape.cols (shape.cols + shape.rows) (Lowers (T.content table.now) shape.rows)) }
+    ensures { FindsFirst shape.cols (shape.cols + shape.rows) (Lowers (T.content table.now) shape.rows) result }
 {
     for row in 0..shape.rows {
         let col = shape.cols + row;
@@ -59,7 +59,7 @@ fn entering_artificial<T: Tableau>(table: &T, shape: Shape) -> Option<u32>
 /// The column that enters in the first phase: artificial ones are offered only where none of the program's may enter.
 fn entering<T: Tableau>(table: &T, shape: Shape) -> Option<u32>
     requires { IsOpen shape.rows shape.cols (T.content table.now) }
-    ensures { MatchOption result (AreNone (shape.cols + shape.rows) (Lowers (T.content table.now) shape.rows)) (IsFirst shape.cols (shape.cols + shape.rows) (Lowers (T.content table.now) shape.rows)) }
+    ensures { FindsFirst shape.cols (shape.cols + shape.rows) (Lowers (T.content table.now) shape.rows) result }
 {
     match entering_program(table, shape) {
         Some(col) => Some(col),

@@ -2,8 +2,9 @@
 //!
 //! `feasible` answers with a feasible tableau or with multipliers which show that there is none, and `best` leads on to a
 //! tableau that is optimal for a direction and, among the optima, for its left turn. It stands on `int_tableau`, whose
-//! `Tableau` is all that it asks, and on `plane_hull` for directions. Columns stand in one fixed order, as Bland's rule
-//! wants it: the program's from the last to the first, then the artificial ones.
+//! `Tableau` is all that it asks, and on `plane_hull` for directions. Columns stand in one fixed order: the program's from
+//! the last to the first, then the artificial ones. By Bland's rule in that order both calls end by themselves. `Steps` says
+//! which pivots lead to the basis that they leave, also where it is too wide.
 #![tactic(auto)]
 
 mod driving;

@@ -1,9 +1,9 @@
-ghost use Rattle.std.specs.Prelude.{◌≢◌, ◌↔◌, IsTrue, ◌<◌, MatchOption, IfErr, OnOk, length};
+ghost use Rattle.std.specs.Prelude.{◌≢◌, ◌↔◌, IsTrue, ◌<◌, IfErr, OnOk, length};
 ghost use Rattle.lp_form.specs.Solutions.{HasBoundedPayoffs};
 ghost use Rattle.bland_simplex.specs.Open.{IsOpen};
 ghost use Rattle.bland_simplex.specs.Greatest.{IsGreatest};
 ghost use Rattle.bland_simplex.specs.Improving.{Improves, IsOptimal};
-ghost use Rattle.bland_simplex.specs.Order.{IsFirst};
+ghost use Rattle.bland_simplex.specs.Order.{FindsFirst};
 ghost use Rattle.bland_simplex.specs.Ready.{IsReady};
 ghost use Rattle.bland_simplex.specs.Steps.{IsTurning, StepsLead, StepsEnd};
 
@@ -33,7 +33,7 @@ fn improves<T: Tableau>(table: &T, shape: Shape, dir: &Dir, col: u32) -> bool
 /// The first improving column of the program in the fixed order.
 fn improving<T: Tableau>(table: &T, shape: Shape, dir: &Dir) -> Option<u32>
     requires { IsOpen shape.rows shape.cols (T.content table.now) }
-    ensures { MatchOption result (IsOptimal (T.content table.now) shape.rows shape.cols dir.now) (IsFirst shape.cols shape.cols (Improves (T.content table.now) shape.rows dir.now)) }
+    ensures { FindsFirst shape.cols shape.cols (Improves (T.content table.now) shape.rows dir.now) result }
 {
     for behind in 0..shape.cols {
         let col = shape.cols - 1 - behind;
