@@ -8,9 +8,10 @@ use lib.Signed.{≤ℤ_refl}
 use Rattle.exact_algebra.proofs.Order.{below_or_at_least, cancel_positive}
 use Rattle.exact_algebra.proofs.RingLaws.{*ℤ_comm, *ℤ-zero, zero-*ℤ}
 use Rattle.exact_algebra.proofs.RingTactic.{linear}
+use Rattle.exact_algebra.proofs.Sums.{sum_to-nothing}
 use Rattle.exact_algebra.specs.Sums.{sum_to}
 use Rattle.exact_linear.proofs.BlandMeasure.{bland_measure, bland_falls}
-use Rattle.exact_linear.proofs.Phase.{phase_done}
+use Rattle.exact_linear.proofs.Phase.{phase_done, phase_row}
 use Rattle.exact_linear.proofs.SimplexSteps.{level_step}
 use Rattle.exact_linear.proofs.Turns.{turn_of}
 use Rattle.exact_linear.specs.BlandRule.{IsBlandStep}
@@ -104,6 +105,26 @@ module _ (lp : LpView) where
     feasible = lowered.way.feasible;
     inert = λ row h behind. record { level = level_row t lowered row h behind; empty = driven row h behind };
   }
+
+  -- In a ready tableau each row counts nothing in Phase's right side.
+  pub ready_lowered : (t : Content) → IsReady lp t → IsLowered lp t
+  ready_lowered t ready = record { way = record { «open» = ready.open; reached = ready.reached; feasible = ready.feasible }; done = done }
+    where
+      none : (k : ℕ) → k < length lp.rows → phase_weight lp (t.basic k) *ℤ t.entry k (side lp) ≡ pos 0
+      none k h = ⊎_elim
+          (λ (low : t.basic k < lp.cols). ap (λ e. e *ℤ t.entry k (side lp)) (weight_program lp (t.basic k) low) ∙ zero-*ℤ (t.entry k (side lp)))
+          (λ (high : lp.cols ≤ t.basic k). ap (λ e. phase_weight lp (t.basic k) *ℤ e) (ready.inert k h high).level ∙ *ℤ-zero (phase_weight lp (t.basic k)))
+          (cases_lt (t.basic k) lp.cols)
+
+      cost_is : (a b : ℤ) → a +ℤ b ≡ pos 0 → a ≡ neg_ℤ b
+      cost_is a b is = omega (arith, ints)
+
+      done : t.entry (length lp.rows + 2) (side lp) ≡ pos 0
+      done =
+          let whole = whole_of lp t ready.open ready.reached in
+          let row = phase_row whole.program (whole.costs (length lp.rows + 2) (omega arith) (omega arith)) (λ k. phase_weight lp (t.basic k)) (λ k l. refl) (side lp) (omega arith) (cost_is (start_entry lp (length lp.rows + 2) (side lp)) (sum_to (length lp.rows) (λ c. start_entry lp c (side lp))) (weight_right lp)) in
+          let nothing = sum_to-nothing (length lp.rows) (λ k. phase_weight lp (t.basic k) *ℤ t.entry k (side lp)) none in
+          row ∙ ap neg_ℤ nothing
 
   -- A turn that drives a column out.
   pub lowered_after : (old new : Content) (row col : ℕ) → IsLowered lp old → IsTableau new → IsPivoted old new row col → DrivesOut old (length lp.rows) lp.cols row col → IsLowered lp new

@@ -9,11 +9,13 @@
 
 mod driving;
 mod first_phase;
+mod laws;
 mod leaving;
 mod shapes;
 mod turning;
 
 pub use first_phase::{Found, feasible};
+pub use laws::ready_tableaus_are_lowered;
 pub use lp_form::NumList;
 pub use plane_hull::Dir;
 pub use shapes::Shape;
