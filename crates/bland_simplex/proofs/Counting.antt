@@ -14,16 +14,20 @@ count_behind cols basis (suc m) = count_behind cols basis m + is_behind cols (ba
 count_same : (cols : ℕ) (old new : ℕ → ℕ) (m : ℕ) → ((k : ℕ) → k < m → new k ≡ old k) → count_behind cols new m ≡ count_behind cols old m
 unfolding count_behind
 count_same cols old new zero same = refl
-count_same cols old new (suc m) same = ap₂ (λ x y. x + y) (count_same cols old new m (λ k h. same k (omega arith))) (ap (is_behind cols) (same m (omega arith)))
+count_same cols old new (suc m) same = ap₂ (λ x y. x + y) (count_same cols old new m (λ k h. same k (omega arith)))
+    (ap (is_behind cols) (same m (omega arith)))
 
-pub count_falls : (cols : ℕ) (old new : ℕ → ℕ) (m row col : ℕ) → row < m → cols ≤ old row → col < cols → new row ≡ col → ((k : ℕ) → k ≢ row → new k ≡ old k) → count_behind cols new m < count_behind cols old m
+pub count_falls : (cols : ℕ) (old new : ℕ → ℕ) (m row col : ℕ) → row < m → cols ≤ old row → col < cols → new row ≡ col →
+    ((k : ℕ) → k ≢ row → new k ≡ old k) → count_behind cols new m < count_behind cols old m
 unfolding count_behind
 count_falls cols old new zero row col h behind program enters others = absurd (omega arith)
 count_falls cols old new (suc m) row col h behind program enters others = ⊎_elim
     (λ (e : row ≡ m).
     let same = count_same cols old new m (λ k l. others k (λ d. omega arith)) in
-    let none : is_behind cols (new m) ≡ 0 = ap (λ k. is_behind cols (new k)) (sym e) ∙ (ap (is_behind cols) enters ∙ cond-true (nat_lt col cols) 0 1 (lt-ltb col cols program)) in
-    let one : is_behind cols (old m) ≡ 1 = ap (λ k. is_behind cols (old k)) (sym e) ∙ cond-false (nat_lt (old row) cols) 0 1 (le-ltb (old row) cols behind) in
+    let none : is_behind cols (new m) ≡ 0 = ap (λ k. is_behind cols (new k)) (sym e) ∙
+    (ap (is_behind cols) enters ∙ cond-true (nat_lt col cols) 0 1 (lt-ltb col cols program)) in
+    let one : is_behind cols (old m) ≡ 1 = ap (λ k. is_behind cols (old k)) (sym e) ∙ cond-false (nat_lt (old row) cols) 0 1
+    (le-ltb (old row) cols behind) in
     rw (same, none, one) (omega arith))
     (λ (d : row ≢ m).
     let fewer = count_falls cols old new m row col (omega arith) behind program enters others in

@@ -40,31 +40,44 @@ module _ (lp : LpView) where
 
   module _ (t : Content) (way : IsUnderWay lp t) (y : List ℤ) (are : AreMultipliers (length lp.rows) lp.cols t y) where
     -- What the multipliers make of a column of the start.
-    made_of : (j : ℕ) → j < width lp → phase_weight lp j ≡ pos 0 → sum_to (length lp.rows) (λ row. slice_index_or y row (pos 0) *ℤ start_entry lp row j) ≡ neg_ℤ (t.entry (length lp.rows + 2) j)
+    made_of : (j : ℕ) → j < width lp → phase_weight lp j ≡ pos 0 →
+        sum_to (length lp.rows) (λ row. slice_index_or y row (pos 0) *ℤ start_entry lp row j) ≡ neg_ℤ (t.entry (length lp.rows + 2) j)
     made_of j l none =
         let whole = whole_of lp t way.open way.reached in
-        sum_to-same (length lp.rows) (λ row. slice_index_or y row (pos 0) *ℤ start_entry lp row j) (λ k. (t.denom -ℤ t.entry (length lp.rows + 2) (lp.cols + k)) *ℤ start_entry lp k j) (λ k h. ap (λ e. e *ℤ start_entry lp k j) (are.values k h))
-        ∙ phase_multipliers whole.program (whole.costs (length lp.rows + 2) (omega arith) (omega arith)) (λ k. lp.cols + k) (λ k h. omega arith) units (phase_artificial lp) j l
+        sum_to-same (length lp.rows) (λ row. slice_index_or y row (pos 0) *ℤ start_entry lp row j)
+        (λ k. (t.denom -ℤ t.entry (length lp.rows + 2) (lp.cols + k)) *ℤ start_entry lp k j)
+        (λ k h. ap (λ e. e *ℤ start_entry lp k j) (are.values k h))
+        ∙ phase_multipliers whole.program (whole.costs (length lp.rows + 2) (omega arith) (omega arith)) (λ k. lp.cols + k)
+        (λ k h. omega arith) units (phase_artificial lp) j l
         (opposite_of (start_entry lp (length lp.rows + 2) j) (sum_to (length lp.rows) (λ c. start_entry lp c j)) none)
 
     made_of_program : (col : ℕ) → col < lp.cols → times_column lp y col ≡ neg_ℤ (t.entry (length lp.rows + 2) col)
     made_of_program col l =
-        sum_to-same (length lp.rows) (λ row. slice_index_or y row (pos 0) *ℤ coefficient lp row col) (λ row. slice_index_or y row (pos 0) *ℤ start_entry lp row col) (λ row h. ap (λ e. slice_index_or y row (pos 0) *ℤ e) (sym (entry_program lp row col h l)))
+        sum_to-same (length lp.rows) (λ row. slice_index_or y row (pos 0) *ℤ coefficient lp row col)
+        (λ row. slice_index_or y row (pos 0) *ℤ start_entry lp row col)
+        (λ row h. ap (λ e. slice_index_or y row (pos 0) *ℤ e) (sym (entry_program lp row col h l)))
         ∙ made_of col (omega arith) (weight_program lp col l)
 
     module _ (program : IsProgram lp) (stuck : IsStuck (length lp.rows) lp.cols t) where
       first_is : slice_index_or y 0 (pos 0) ≡ neg_ℤ (t.entry (length lp.rows + 2) (side lp))
       first_is =
           let at_right = λ (row : ℕ). slice_index_or y row (pos 0) *ℤ start_entry lp row (side lp) in
-          let only = sum_to-one (length lp.rows) 0 at_right program.a_row (λ k h d. ap (λ e. slice_index_or y k (pos 0) *ℤ e) (entry_right lp k h ∙ program.zeros k (omega arith)) ∙ *ℤ-zero (slice_index_or y k (pos 0))) in
-          let own = ap (λ e. slice_index_or y 0 (pos 0) *ℤ e) (entry_right lp 0 program.a_row ∙ program.one) ∙ *ℤ-one (slice_index_or y 0 (pos 0)) in
+          let only = sum_to-one (length lp.rows) 0 at_right program.a_row
+          (λ k h d. ap (λ e. slice_index_or y k (pos 0) *ℤ e) (entry_right lp k h ∙ program.zeros k (omega arith)) ∙ *ℤ-zero
+          (slice_index_or y k (pos 0))) in
+          let own = ap (λ e. slice_index_or y 0 (pos 0) *ℤ e) (entry_right lp 0 program.a_row ∙ program.one) ∙ *ℤ-one
+          (slice_index_or y 0 (pos 0)) in
           sym own ∙ (sym only ∙ made_of (side lp) (omega arith) (weight_right lp))
 
       phase_negative : t.entry (length lp.rows + 2) (side lp) <ℤ pos 0
       phase_negative =
           let whole = whole_of lp t way.open way.reached in
-          let row = phase_row whole.program (whole.costs (length lp.rows + 2) (omega arith) (omega arith)) (λ k. phase_weight lp (t.basic k)) (λ k l. refl) (side lp) (omega arith) (opposite_of (start_entry lp (length lp.rows + 2) (side lp)) (sum_to (length lp.rows) (λ c. start_entry lp c (side lp))) (weight_right lp)) in
-          let over = sum_to_not_negative (length lp.rows) (λ k. phase_weight lp (t.basic k) *ℤ t.entry k (side lp)) (λ k h. product_not_negative (weight_over lp (t.basic k) (whole.program.within k h)) (way.feasible.at k h)) in
+          let row = phase_row whole.program (whole.costs (length lp.rows + 2) (omega arith) (omega arith))
+          (λ k. phase_weight lp (t.basic k)) (λ k l. refl) (side lp) (omega arith)
+          (opposite_of (start_entry lp (length lp.rows + 2) (side lp)) (sum_to (length lp.rows) (λ c. start_entry lp c (side lp)))
+          (weight_right lp)) in
+          let over = sum_to_not_negative (length lp.rows) (λ k. phase_weight lp (t.basic k) *ℤ t.entry k (side lp))
+          (λ k h. product_not_negative (weight_over lp (t.basic k) (whole.program.within k h)) (way.feasible.at k h)) in
           below (t.entry (length lp.rows + 2) (side lp)) _ row over stuck.above
         where
           below : (a s : ℤ) → a ≡ neg_ℤ s → pos 0 ≤ℤ s → a ≢ pos 0 → a <ℤ pos 0
@@ -74,9 +87,12 @@ module _ (lp : LpView) where
       stuck_shows = record {
         one_each = are.one_each;
         above = (let low = phase_negative in let is = first_is in rw is (omega (arith, ints)));
-        not_above = λ col l. (let is = made_of_program col l in let over = stuck.not_negative col (omega arith) in rw is (omega (arith, ints)));
+        not_above = λ col l. (let is = made_of_program col l in let over = stuck.not_negative col (omega arith) in rw is
+            (omega (arith, ints)));
         narrow = are.narrow;
-        narrow_columns = λ col l. (let is = made_of_program col l in let small = way.open.rules.narrow way.open.fresh (length lp.rows + 2) col (omega (arith, way.open.rows_are)) (omega (arith, way.open.cols_are)) in rw is (turned (t.entry (length lp.rows + 2) col) small));
+        narrow_columns = λ col l. (let is = made_of_program col l in let small = way.open.rules.narrow way.open.fresh (length lp.rows + 2)
+            col (omega (arith, way.open.rows_are)) (omega (arith, way.open.cols_are)) in rw is
+            (turned (t.entry (length lp.rows + 2) col) small));
       }
         where
           turned : (a : ℤ) → Narrow a → Narrow (neg_ℤ a)
@@ -87,12 +103,18 @@ module _ (lp : LpView) where
   shown_empty program y shows (total, x, positive, solution) =
       let by_rows = row_matrix_column (length lp.rows) lp.cols (λ r. slice_index_or y r (pos 0)) (λ r j. coefficient lp r j) x in
       let at_row = λ (r : ℕ). slice_index_or y r (pos 0) *ℤ sum_to lp.cols (λ j. coefficient lp r j *ℤ x j) in
-      let only = sum_to-one (length lp.rows) 0 at_row program.a_row (λ k h d. ap (λ e. slice_index_or y k (pos 0) *ℤ e) (solution.meets k h ∙ (ap (λ e. total *ℤ e) (program.zeros k (omega arith)) ∙ *ℤ-zero total)) ∙ *ℤ-zero (slice_index_or y k (pos 0))) in
-      let own = ap (λ e. slice_index_or y 0 (pos 0) *ℤ e) (solution.meets 0 program.a_row ∙ (ap (λ e. total *ℤ e) program.one ∙ *ℤ-one total)) in
-      let low = sum_to_at_most lp.cols (λ j. times_column lp y j *ℤ x j) (λ j. pos 0) (λ j l. negative (times_column lp y j) (x j) (shows.not_above j l) (solution.not_negative j l)) in
+      let only = sum_to-one (length lp.rows) 0 at_row program.a_row
+      (λ k h d. ap (λ e. slice_index_or y k (pos 0) *ℤ e)
+      (solution.meets k h ∙ (ap (λ e. total *ℤ e) (program.zeros k (omega arith)) ∙ *ℤ-zero total)) ∙ *ℤ-zero
+      (slice_index_or y k (pos 0))) in
+      let own = ap (λ e. slice_index_or y 0 (pos 0) *ℤ e)
+      (solution.meets 0 program.a_row ∙ (ap (λ e. total *ℤ e) program.one ∙ *ℤ-one total)) in
+      let low = sum_to_at_most lp.cols (λ j. times_column lp y j *ℤ x j) (λ j. pos 0)
+      (λ j l. negative (times_column lp y j) (x j) (shows.not_above j l) (solution.not_negative j l)) in
       let nothing = sum_to-nothing lp.cols (λ j. pos 0) (λ j l. refl) in
       let high = product_positive shows.above positive in
-      clash (sum_to lp.cols (λ j. times_column lp y j *ℤ x j)) (sum_to (length lp.rows) at_row) (slice_index_or y 0 (pos 0) *ℤ total) (sum_to lp.cols (λ j. pos 0)) by_rows (only ∙ own) low nothing high
+      clash (sum_to lp.cols (λ j. times_column lp y j *ℤ x j)) (sum_to (length lp.rows) at_row) (slice_index_or y 0 (pos 0) *ℤ total)
+      (sum_to lp.cols (λ j. pos 0)) by_rows (only ∙ own) low nothing high
     where
       negative : (a b : ℤ) → a ≤ℤ pos 0 → pos 0 ≤ℤ b → (a *ℤ b) ≤ℤ pos 0
       negative a b low over = rw (*ℤ_comm a b) (product_not_positive over low)
@@ -103,8 +125,14 @@ module _ (lp : LpView) where
   -- The basic solution of a ready tableau.
   pub ready_solution : (t : Content) → IsReady lp t → HasSolution lp
   ready_solution t ready =
-      let whole = whole_of lp t ready.open ready.reached in
-      (t.denom, basic_value (length lp.rows) t.basic (λ k. t.entry k (side lp)), whole.program.positive, solution_of lp t.denom (basic_value (length lp.rows) t.basic (λ k. t.entry k (side lp))) (basic_solution whole.program (side lp) lp.cols (omega arith) ready.feasible ends))
+      let whole = whole_of lp t ready.open ready.reached in (
+        t.denom,
+        basic_value (length lp.rows) t.basic (λ k. t.entry k (side lp)),
+        whole.program.positive,
+        solution_of lp t.denom
+            (basic_value (length lp.rows) t.basic (λ k. t.entry k (side lp)))
+            (basic_solution whole.program (side lp) lp.cols (omega arith) ready.feasible ends),
+      )
     where
       ends : (k : ℕ) → k < length lp.rows → (t.basic k < lp.cols) ⊎ (t.entry k (side lp) ≡ pos 0)
       ends k h = ⊎_elim (λ (low : t.basic k < lp.cols). inl low) (λ (high : lp.cols ≤ t.basic k). inr (ready.inert k h high).level) (cases_lt (t.basic k) lp.cols)

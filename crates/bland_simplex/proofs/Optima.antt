@@ -28,10 +28,12 @@ turned : (a b u v : ℤ) → neg_ℤ b *ℤ u +ℤ a *ℤ v ≡ a *ℤ v -ℤ b 
 turned a b u v = simp ring_laws (omega (arith, linear))
 
 module _ (lp : LpView) where
-  linear_solution : (total : ℤ) (x : ℕ → ℤ) → IsSolution lp total x → simplex.IsSolution (length lp.rows) lp.cols (side lp) (column (start_entry lp)) total x
+  linear_solution : (total : ℤ) (x : ℕ → ℤ) → IsSolution lp total x →
+      simplex.IsSolution (length lp.rows) lp.cols (side lp) (column (start_entry lp)) total x
   linear_solution total x solution = record {
     positive = solution.not_negative;
-    makes = λ c h. sum_to-same lp.cols (λ j. start_entry lp c j *ℤ x j) (λ j. coefficient lp c j *ℤ x j) (λ j l. ap (λ e. e *ℤ x j) (entry_program lp c j h l)) ∙ (solution.meets c h ∙ ap (λ e. total *ℤ e) (sym (entry_right lp c h)));
+    makes = λ c h. sum_to-same lp.cols (λ j. start_entry lp c j *ℤ x j) (λ j. coefficient lp c j *ℤ x j)
+        (λ j l. ap (λ e. e *ℤ x j) (entry_program lp c j h l)) ∙ (solution.meets c h ∙ ap (λ e. total *ℤ e) (sym (entry_right lp c h)));
   }
 
   -- The costs of weighted payoffs.
@@ -55,7 +57,8 @@ module _ (lp : LpView) where
 
     priced_in : (a b : ℤ) → IsCostRow (length lp.rows) (width lp) (costs_in a b) t.basic t.denom t.entry (row_in a b)
     unfolding costs_in
-    priced_in a b = let whole = whole_of lp t ready.open ready.reached in costs_combined a b (whole.costs (length lp.rows) (omega arith) (omega arith)) (whole.costs (length lp.rows + 1) (omega arith) (omega arith))
+    priced_in a b = let whole = whole_of lp t ready.open ready.reached in costs_combined a b
+        (whole.costs (length lp.rows) (omega arith) (omega arith)) (whole.costs (length lp.rows + 1) (omega arith) (omega arith))
 
     ends : (k : ℕ) → k < length lp.rows → (t.basic k < lp.cols) ⊎ (t.entry k (side lp) ≡ pos 0)
     ends k h = ⊎_elim (λ (low : t.basic k < lp.cols). inl low) (λ (high : lp.cols ≤ t.basic k). inr (ready.inert k h high).level) (cases_lt (t.basic k) lp.cols)
@@ -66,13 +69,15 @@ module _ (lp : LpView) where
 
     own_solution : IsSolution lp t.denom own
     unfolding own
-    own_solution = solution_of lp t.denom (basic_value (length lp.rows) t.basic (λ k. t.entry k (side lp))) (basic_solution (whole_of lp t ready.open ready.reached).program (side lp) lp.cols (omega arith) ready.feasible ends)
+    own_solution = solution_of lp t.denom (basic_value (length lp.rows) t.basic (λ k. t.entry k (side lp)))
+        (basic_solution (whole_of lp t ready.open ready.reached).program (side lp) lp.cols (omega arith) ready.feasible ends)
 
     own_pays : (a b : ℤ) → a *ℤ paid lp One own +ℤ b *ℤ paid lp Two own ≡ row_in a b (side lp)
     unfolding own
     own_pays a b =
         sym (weighted_sum lp a b (basic_value (length lp.rows) t.basic (λ k. t.entry k (side lp))))
-        ∙ basic_payoff (whole_of lp t ready.open ready.reached).program (priced_in a b) lp.cols (side lp) (omega arith) (omega arith) (weighted lp a b) (negated_in a b) (free_in a b) ready.feasible ends
+        ∙ basic_payoff (whole_of lp t ready.open ready.reached).program (priced_in a b) lp.cols (side lp) (omega arith) (omega arith)
+        (weighted lp a b) (negated_in a b) (free_in a b) ready.feasible ends
 
     module _ (dir : Dir) (optimal : IsOptimal t (length lp.rows) lp.cols dir) where
       level_or_above : (j : ℕ) → j < lp.cols → pos 0 ≤ℤ row_in dir.a dir.b j
@@ -85,22 +90,36 @@ module _ (lp : LpView) where
 
       along : (total : ℤ) (x : ℕ → ℤ) → IsSolution lp total x → (t.denom *ℤ paid_along lp dir x) ≤ℤ (total *ℤ paid_along lp dir own)
       along total x solution =
-          let most = at_most_right_side (whole_of lp t ready.open ready.reached).program (priced_in dir.a dir.b) lp.cols (side lp) (omega arith) (omega arith) (weighted lp dir.a dir.b) (negated_in dir.a dir.b) (free_in dir.a dir.b) total x (linear_solution total x solution) level_or_above in
+          let most = at_most_right_side (whole_of lp t ready.open ready.reached).program (priced_in dir.a dir.b) lp.cols (side lp)
+          (omega arith) (omega arith) (weighted lp dir.a dir.b) (negated_in dir.a dir.b) (free_in dir.a dir.b) total x
+          (linear_solution total x solution) level_or_above in
           rw (own_pays dir.a dir.b, ← weighted_sum lp dir.a dir.b x) most
 
-      left : (total : ℤ) (x : ℕ → ℤ) → IsSolution lp total x → t.denom *ℤ paid_along lp dir x ≡ total *ℤ paid_along lp dir own → (t.denom *ℤ paid_left lp dir x) ≤ℤ (total *ℤ paid_left lp dir own)
+      left : (total : ℤ) (x : ℕ → ℤ) → IsSolution lp total x → t.denom *ℤ paid_along lp dir x ≡ total *ℤ paid_along lp dir own →
+          (t.denom *ℤ paid_left lp dir x) ≤ℤ (total *ℤ paid_left lp dir own)
       left total x solution same =
           let level = ap (λ e. t.denom *ℤ e) (weighted_sum lp dir.a dir.b x) ∙ (same ∙ ap (λ e. total *ℤ e) (own_pays dir.a dir.b)) in
-          let most = second_at_most (whole_of lp t ready.open ready.reached).program (priced_in dir.a dir.b) (priced_in (neg_ℤ dir.b) dir.a) lp.cols (side lp) (omega arith) (omega arith) (weighted lp dir.a dir.b) (weighted lp (neg_ℤ dir.b) dir.a)
-          (negated_in dir.a dir.b) (negated_in (neg_ℤ dir.b) dir.a) (free_in dir.a dir.b) (free_in (neg_ℤ dir.b) dir.a) total x (linear_solution total x solution) level_or_above then_left level in
-          rw (← turned dir.a dir.b (paid lp One own) (paid lp Two own), ← turned dir.a dir.b (paid lp One x) (paid lp Two x), own_pays (neg_ℤ dir.b) dir.a, ← weighted_sum lp (neg_ℤ dir.b) dir.a x) most
+          let most = second_at_most (whole_of lp t ready.open ready.reached).program (priced_in dir.a dir.b)
+          (priced_in (neg_ℤ dir.b) dir.a) lp.cols (side lp) (omega arith) (omega arith) (weighted lp dir.a dir.b)
+          (weighted lp (neg_ℤ dir.b) dir.a)
+          (negated_in dir.a dir.b) (negated_in (neg_ℤ dir.b) dir.a) (free_in dir.a dir.b) (free_in (neg_ℤ dir.b) dir.a) total x
+          (linear_solution total x solution) level_or_above then_left level in
+          rw (
+            ← turned dir.a dir.b (paid lp One own) (paid lp Two own),
+            ← turned dir.a dir.b (paid lp One x) (paid lp Two x),
+            own_pays
+                (neg_ℤ dir.b) dir.a,
+            ← weighted_sum lp (neg_ℤ dir.b) dir.a x,
+          ) most
 
       pub greatest : IsGreatest lp t dir
       greatest = record {
         own = own;
         solution = own_solution;
         own_along = own_pays dir.a dir.b;
-        own_left = sym (turned dir.a dir.b (paid lp One own) (paid lp Two own)) ∙ (own_pays (neg_ℤ dir.b) dir.a ∙ turned dir.a dir.b (t.entry (length lp.rows) (side lp)) (t.entry (length lp.rows + 1) (side lp)));
+        own_left = sym (turned dir.a dir.b (paid lp One own) (paid lp Two own)) ∙
+            (own_pays (neg_ℤ dir.b) dir.a ∙ turned dir.a dir.b (t.entry (length lp.rows) (side lp))
+            (t.entry (length lp.rows + 1) (side lp)));
         along = λ total x positive solution. along total x solution;
         left = λ total x positive solution same. left total x solution same;
       }

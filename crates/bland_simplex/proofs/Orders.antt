@@ -27,10 +27,12 @@ rank_once cols i j same =
 module _ (cols : ℕ) (May : ℕ → Type 0) where
   -- Counted from the other end, each column of the program was passed.
   pub none_of_program : ((k : ℕ) → k < cols → May (cols - 1 - k) → ⊥) → AreNone cols May
-  none_of_program passed col h may = let same : cols - 1 - (cols - 1 - col) ≡ col = omega arith in passed (cols - 1 - col) (omega arith) (subst May (sym same) may)
+  none_of_program passed col h may = let same : cols - 1 - (cols - 1 - col) ≡ col = omega arith in passed (cols - 1 - col) (omega arith)
+      (subst May (sym same) may)
 
   -- The column at which the search from the last column on stops.
-  pub first_of_program : (behind : ℕ) → behind < cols → ((k : ℕ) → k < behind → May (cols - 1 - k) → ⊥) → May (cols - 1 - behind) → IsFirst cols cols May (cols - 1 - behind)
+  pub first_of_program : (behind : ℕ) → behind < cols → ((k : ℕ) → k < behind → May (cols - 1 - k) → ⊥) → May (cols - 1 - behind) →
+      IsFirst cols cols May (cols - 1 - behind)
   first_of_program behind h passed may = record {
     offered_is = omega arith;
     may = may;
@@ -60,10 +62,12 @@ module _ (cols : ℕ) (May : ℕ → Type 0) where
     none_of_all program passed col l may =
         ⊎_elim
         (λ (h : col < cols). program col h may)
-        (λ (h : cols ≤ col). let same : cols + (col - cols) ≡ col = omega arith in passed (col - cols) (omega arith) (subst May (sym same) may))
+        (λ (h : cols ≤ col). let same : cols + (col - cols) ≡ col = omega arith in passed (col - cols) (omega arith)
+        (subst May (sym same) may))
         (cases_lt col cols)
 
-    pub first_of_artificial : AreNone cols May → (n : ℕ) → n < rows → ((k : ℕ) → k < n → May (cols + k) → ⊥) → May (cols + n) → IsFirst cols (cols + rows) May (cols + n)
+    pub first_of_artificial : AreNone cols May → (n : ℕ) → n < rows → ((k : ℕ) → k < n → May (cols + k) → ⊥) → May (cols + n) →
+        IsFirst cols (cols + rows) May (cols + n)
     first_of_artificial program n h passed may = record {
       offered_is = omega arith;
       may = may;

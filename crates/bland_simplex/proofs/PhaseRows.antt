@@ -23,7 +23,8 @@ module _ {m n : ℕ} {columns : ℕ → ℕ → ℤ} {costs row : ℕ → ℤ} {
   weighed j l =
       let ones = λ (i : ℕ). sum_to-same m (λ c. pos 1 *ℤ columns i c) (λ c. columns i c) (λ c h. one-*ℤ (columns i c)) in
       let shifted = (costs_shifted t z (λ c. pos 1)).at j l in
-      let terms = sum_to-same m (λ k. (costs (basis k) +ℤ sum_to m (λ c. pos 1 *ℤ columns (basis k) c)) *ℤ matrix k j) (λ k. weight (basis k) *ℤ matrix k j) (λ k h. ap (λ e. (costs (basis k) +ℤ e) *ℤ matrix k j) (ones (basis k))) in
+      let terms = sum_to-same m (λ k. (costs (basis k) +ℤ sum_to m (λ c. pos 1 *ℤ columns (basis k) c)) *ℤ matrix k j)
+      (λ k. weight (basis k) *ℤ matrix k j) (λ k h. ap (λ e. (costs (basis k) +ℤ e) *ℤ matrix k j) (ones (basis k))) in
       let own = ap (λ e. den *ℤ (costs j +ℤ e)) (ones j) in
       ap (λ e. row j +ℤ e) (sym terms) ∙ (shifted ∙ own)
 
@@ -32,7 +33,8 @@ module _ {m n : ℕ} {columns : ℕ → ℕ → ℤ} {costs row : ℕ → ℤ} {
     where
       none : ((i : ℕ) → i < m → matrix i s ≤ℤ pos 0) → ⊥
       none no_row =
-          let low = sum_to_at_most m (λ k. weight (basis k) *ℤ matrix k s) (λ k. pos 0) (λ k h. product_not_positive (over (basis k) (t.within k h)) (no_row k h)) in
+          let low = sum_to_at_most m (λ k. weight (basis k) *ℤ matrix k s) (λ k. pos 0)
+          (λ k h. product_not_positive (over (basis k) (t.within k h)) (no_row k h)) in
           let nothing = sum_to-nothing m (λ k. pos 0) (λ k h. refl) in
           let positive = t.positive in
           let weak : pos 0 ≤ℤ den = omega (arith, ints) in

@@ -14,7 +14,8 @@ pub record AreRead (rows cols : ℕ) (t : Content) (n : ℕ) (multipliers : List
   pub values : (row : ℕ) → row < n → slice_index_or multipliers row (pos 0) ≡ t.denom -ℤ t.entry (rows + 2) (cols + row)
   pub narrow : All Narrow multipliers
 
-pub read_more : (rows cols : ℕ) (t : Content) (n : ℕ) (xs ys : List ℤ) (x : ℤ) → AreRead rows cols t n xs → ys ≡ xs ++ x ∷ [] → x ≡ t.denom -ℤ t.entry (rows + 2) (cols + n) → Narrow x → AreRead rows cols t (n + 1) ys
+pub read_more : (rows cols : ℕ) (t : Content) (n : ℕ) (xs ys : List ℤ) (x : ℤ) → AreRead rows cols t n xs → ys ≡ xs ++ x ∷ [] →
+    x ≡ t.denom -ℤ t.entry (rows + 2) (cols + n) → Narrow x → AreRead rows cols t (n + 1) ys
 read_more rows cols t n xs ys x read e is narrow = record {
   one_each = push_length xs ys n x e read.one_each;
   values = push_step (λ k v. v ≡ t.denom -ℤ t.entry (rows + 2) (cols + k)) (pos 0) xs ys n x e read.one_each read.values is;
@@ -22,7 +23,8 @@ read_more rows cols t n xs ys x read e is narrow = record {
 }
 
 -- what `difference` answers, passed on in its bits
-pub read_difference : (x y z denom phase : ℤ) → x ≡ denom → y ≡ phase → Narrow x → Narrow y → pos 0 <ℤ denom → pos 0 ≤ℤ phase → z ≡ to_z w128 (of_z w128 x) -ℤ to_z w128 (of_z w128 y) → (to_z w128 (of_z w128 z) ≡ denom -ℤ phase) × Narrow (to_z w128 (of_z w128 z))
+pub read_difference : (x y z denom phase : ℤ) → x ≡ denom → y ≡ phase → Narrow x → Narrow y → pos 0 <ℤ denom → pos 0 ≤ℤ phase →
+    z ≡ to_z w128 (of_z w128 x) -ℤ to_z w128 (of_z w128 y) → (to_z w128 (of_z w128 z) ≡ denom -ℤ phase) × Narrow (to_z w128 (of_z w128 z))
 read_difference x y z denom phase e f nx ny positive above h =
     let denom_narrow : Narrow denom = rw e at nx in
     let phase_narrow : Narrow phase = rw f at ny in

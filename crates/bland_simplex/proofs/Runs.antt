@@ -10,16 +10,35 @@ use Rattle.bland_simplex.specs.Steps.{StepsLead, stays, goes, StepsEnd}
 module _ {Step : Content → ℕ → ℕ → Type 0} where
   pub leads_on : (first middle last : Content) → StepsLead Step first middle → StepsLead Step middle last → StepsLead Step first last
   leads_on first middle _ before stays = before
-  leads_on first middle next before (goes at _ row col led step pivoted) = goes at next row col (leads_on first middle at before led) step pivoted
+  leads_on first middle next before (goes at _ row col led step pivoted) = goes at next row col (leads_on first middle at before led)
+      step pivoted
 
-  pub ends_on : (first middle new : Content) (end : PivotEnd) → StepsLead Step first middle → StepsEnd Step middle new end → StepsEnd Step first new end
-  ends_on first middle new (Wide place) before ended = record { last = ended.last; row = ended.row; col = ended.col; led = leads_on first middle ended.last before ended.led; step = ended.step; wide = ended.wide }
-  ends_on first middle new NoMemory before ended = record { last = ended.last; led = leads_on first middle ended.last before ended.led; rows = ended.rows; cols = ended.cols; basis = ended.basis }
+  pub ends_on : (first middle new : Content) (end : PivotEnd) → StepsLead Step first middle → StepsEnd Step middle new end →
+      StepsEnd Step first new end
+  ends_on first middle new (Wide place) before ended = record {
+    last = ended.last;
+    row = ended.row;
+    col = ended.col;
+    led = leads_on first middle ended.last before ended.led;
+    step = ended.step;
+    wide = ended.wide;
+  }
+  ends_on first middle new NoMemory before ended = record {
+    last = ended.last;
+    led = leads_on first middle ended.last before ended.led;
+    rows = ended.rows;
+    cols = ended.cols;
+    basis =
+        ended.basis;
+  }
 
   -- A pivot that doesn't come to its aim ends the run.
-  pub pivot_ends : (first last new : Content) (row col : ℕ) (end : PivotEnd) → StepsLead Step first last → Step last row col → PivotAnswer last new row col (Err end) → StepsEnd Step first new end
-  pivot_ends first last new row col (Wide place) led step answer = record { last = last; row = row; col = col; led = led; step = step; wide = answer }
-  pivot_ends first last new row col NoMemory led step answer = record { last = last; led = led; rows = answer.rows; cols = answer.cols; basis = answer.basis }
+  pub pivot_ends : (first last new : Content) (row col : ℕ) (end : PivotEnd) → StepsLead Step first last → Step last row col →
+      PivotAnswer last new row col (Err end) → StepsEnd Step first new end
+  pivot_ends first last new row col (Wide place)
+      led step answer = record { last = last; row = row; col = col; led = led; step = step; wide = answer }
+  pivot_ends first last new row col NoMemory led step answer = record
+      { last = last; led = led; rows = answer.rows; cols = answer.cols; basis = answer.basis }
 
   -- Where memory is short between pivots, the tableau is left as it is.
   pub short_ends : (first last : Content) → StepsLead Step first last → StepsEnd Step first last NoMemory

@@ -19,14 +19,16 @@ module _ (lp : LpView) where
   entry_right row h =
       let in_rows : nat_lt row (length lp.rows) ≡ true = lt-ltb row (length lp.rows) h in
       let behind : nat_lt (lp.cols + length lp.rows) lp.cols ≡ false = le-ltb (lp.cols + length lp.rows) lp.cols (omega arith) in
-      let last : nat_eq (lp.cols + length lp.rows) (lp.cols + length lp.rows) ≡ true = eq-eqb (lp.cols + length lp.rows) (lp.cols + length lp.rows) refl in
+      let last : nat_eq (lp.cols + length lp.rows) (lp.cols + length lp.rows) ≡ true = eq-eqb (lp.cols + length lp.rows)
+      (lp.cols + length lp.rows) refl in
       rw (in_rows, behind, last)
 
   pub entry_own : (row : ℕ) → row < length lp.rows → start_entry lp row (lp.cols + row) ≡ pos 1
   entry_own row h =
       let in_rows : nat_lt row (length lp.rows) ≡ true = lt-ltb row (length lp.rows) h in
       let behind : nat_lt (lp.cols + row) lp.cols ≡ false = le-ltb (lp.cols + row) lp.cols (omega arith) in
-      let not_last : nat_eq (lp.cols + row) (lp.cols + length lp.rows) ≡ false = ne_eqb (lp.cols + row) (lp.cols + length lp.rows) (omega arith) in
+      let not_last : nat_eq (lp.cols + row) (lp.cols + length lp.rows) ≡ false = ne_eqb (lp.cols + row) (lp.cols + length lp.rows)
+      (omega arith) in
       let own : nat_eq (lp.cols + row) (lp.cols + row) ≡ true = eq-eqb (lp.cols + row) (lp.cols + row) refl in
       rw (in_rows, behind, not_last, own)
 
@@ -34,7 +36,8 @@ module _ (lp : LpView) where
   entry_apart row k h l apart =
       let in_rows : nat_lt row (length lp.rows) ≡ true = lt-ltb row (length lp.rows) h in
       let behind : nat_lt (lp.cols + k) lp.cols ≡ false = le-ltb (lp.cols + k) lp.cols (omega arith) in
-      let not_last : nat_eq (lp.cols + k) (lp.cols + length lp.rows) ≡ false = ne_eqb (lp.cols + k) (lp.cols + length lp.rows) (omega arith) in
+      let not_last : nat_eq (lp.cols + k) (lp.cols + length lp.rows) ≡ false = ne_eqb (lp.cols + k) (lp.cols + length lp.rows)
+      (omega arith) in
       let other : nat_eq (lp.cols + k) (lp.cols + row) ≡ false = ne_eqb (lp.cols + k) (lp.cols + row) (λ e. apart (omega arith)) in
       rw (in_rows, behind, not_last, other)
 
@@ -76,7 +79,8 @@ module _ (lp : LpView) where
   not_second : nat_eq (length lp.rows + 2) (length lp.rows + 1) ≡ false
   not_second = ne_eqb (length lp.rows + 2) (length lp.rows + 1) (omega arith)
 
-  phase_program : (col : ℕ) → col < lp.cols → start_entry lp (length lp.rows + 2) col ≡ neg_ℤ (sum_to (length lp.rows) (λ r. coefficient lp r col))
+  phase_program : (col : ℕ) → col < lp.cols →
+      start_entry lp (length lp.rows + 2) col ≡ neg_ℤ (sum_to (length lp.rows) (λ r. coefficient lp r col))
   phase_program col l =
       let in_columns : nat_lt col lp.cols ≡ true = lt-ltb col lp.cols l in
       rw (not_program 2, not_first_too, not_second, in_columns)
@@ -84,13 +88,15 @@ module _ (lp : LpView) where
   phase_right : start_entry lp (length lp.rows + 2) (lp.cols + length lp.rows) ≡ neg_ℤ (sum_to (length lp.rows) (λ r. right_of lp r))
   phase_right =
       let past : nat_lt (lp.cols + length lp.rows) lp.cols ≡ false = le-ltb (lp.cols + length lp.rows) lp.cols (omega arith) in
-      let last : nat_eq (lp.cols + length lp.rows) (lp.cols + length lp.rows) ≡ true = eq-eqb (lp.cols + length lp.rows) (lp.cols + length lp.rows) refl in
+      let last : nat_eq (lp.cols + length lp.rows) (lp.cols + length lp.rows) ≡ true = eq-eqb (lp.cols + length lp.rows)
+      (lp.cols + length lp.rows) refl in
       rw (not_program 2, not_first_too, not_second, past, last)
 
   pub phase_artificial : (k : ℕ) → k < length lp.rows → start_entry lp (length lp.rows + 2) (lp.cols + k) ≡ pos 0
   phase_artificial k h =
       let past : nat_lt (lp.cols + k) lp.cols ≡ false = le-ltb (lp.cols + k) lp.cols (omega arith) in
-      let not_last : nat_eq (lp.cols + k) (lp.cols + length lp.rows) ≡ false = ne_eqb (lp.cols + k) (lp.cols + length lp.rows) (omega arith) in
+      let not_last : nat_eq (lp.cols + k) (lp.cols + length lp.rows) ≡ false = ne_eqb (lp.cols + k) (lp.cols + length lp.rows)
+      (omega arith) in
       rw (not_program 2, not_first_too, not_second, past, not_last)
 
   -- What a column costs in Phase and the sum of its entries come to.
@@ -101,23 +107,29 @@ module _ (lp : LpView) where
   weight_program col l =
       let cost = phase_program col l in
       let entries = sum_to-same (length lp.rows) (λ c. start_entry lp c col) (λ c. coefficient lp c col) (λ c h. entry_program c col h l) in
-      cancels (start_entry lp (length lp.rows + 2) col) (sum_to (length lp.rows) (λ c. start_entry lp c col)) (sum_to (length lp.rows) (λ c. coefficient lp c col)) cost entries
+      cancels (start_entry lp (length lp.rows + 2) col) (sum_to (length lp.rows) (λ c. start_entry lp c col))
+      (sum_to (length lp.rows) (λ c. coefficient lp c col)) cost entries
     where
       cancels : (a b s : ℤ) → a ≡ neg_ℤ s → b ≡ s → a +ℤ b ≡ pos 0
       cancels a b s one two = omega (arith, ints)
 
   pub weight_right : phase_weight (lp.cols + length lp.rows) ≡ pos 0
   weight_right =
-      let entries = sum_to-same (length lp.rows) (λ c. start_entry lp c (lp.cols + length lp.rows)) (λ c. right_of lp c) (λ c h. entry_right c h) in
-      cancels (start_entry lp (length lp.rows + 2) (lp.cols + length lp.rows)) (sum_to (length lp.rows) (λ c. start_entry lp c (lp.cols + length lp.rows))) (sum_to (length lp.rows) (λ c. right_of lp c)) phase_right entries
+      let entries = sum_to-same (length lp.rows) (λ c. start_entry lp c (lp.cols + length lp.rows)) (λ c. right_of lp c)
+      (λ c h. entry_right c h) in
+      cancels (start_entry lp (length lp.rows + 2) (lp.cols + length lp.rows))
+      (sum_to (length lp.rows) (λ c. start_entry lp c (lp.cols + length lp.rows))) (sum_to (length lp.rows) (λ c. right_of lp c))
+      phase_right entries
     where
       cancels : (a b s : ℤ) → a ≡ neg_ℤ s → b ≡ s → a +ℤ b ≡ pos 0
       cancels a b s one two = omega (arith, ints)
 
   pub weight_artificial : (k : ℕ) → k < length lp.rows → phase_weight (lp.cols + k) ≡ pos 1
   weight_artificial k h =
-      let entries = sum_to-one (length lp.rows) k (λ c. start_entry lp c (lp.cols + k)) h (λ c l apart. entry_apart c k l h apart) ∙ entry_own k h in
-      adds (start_entry lp (length lp.rows + 2) (lp.cols + k)) (sum_to (length lp.rows) (λ c. start_entry lp c (lp.cols + k))) (phase_artificial k h) entries
+      let entries = sum_to-one (length lp.rows) k (λ c. start_entry lp c (lp.cols + k)) h (λ c l apart. entry_apart c k l h apart)
+      ∙ entry_own k h in
+      adds (start_entry lp (length lp.rows + 2) (lp.cols + k)) (sum_to (length lp.rows) (λ c. start_entry lp c (lp.cols + k)))
+      (phase_artificial k h) entries
     where
       adds : (a b : ℤ) → a ≡ pos 0 → b ≡ pos 1 → a +ℤ b ≡ pos 1
       adds a b one two = omega (arith, ints)

@@ -81,19 +81,24 @@ regroup w a b u v = simp ring_laws (omega (arith, linear))
 turning_row : Content → ℕ → Dir → ℕ → ℤ
 turning_row t rows dir j = by_first dir *ℤ t.entry rows j +ℤ by_second dir *ℤ t.entry (rows + 1) j
 
-turning_row_is : (t : Content) (rows : ℕ) (dir : Dir) (j : ℕ) → turning_row t rows dir j ≡ pos heavy *ℤ reduced t rows dir j +ℤ reduced_left t rows dir j
+turning_row_is : (t : Content) (rows : ℕ) (dir : Dir) (j : ℕ) →
+    turning_row t rows dir j ≡ pos heavy *ℤ reduced t rows dir j +ℤ reduced_left t rows dir j
 unfolding turning_row by_first by_second
 turning_row_is t rows dir j = regroup (pos heavy) dir.a dir.b (t.entry rows j) (t.entry (rows + 1) j)
 
 module _ (rows cols : ℕ) (t : Content) (o : IsOpen rows cols t) (dir : Dir) (j : ℕ) (inside : j < cols + rows + 1) where
   small : unsigned_abs (reduced_left t rows dir j) < heavy
-  small = left_below dir.a dir.b (t.entry rows j) (t.entry (rows + 1) j) dir.a_narrow dir.b_narrow (o.rules.narrow o.fresh rows j (omega (arith, o.rows_are)) (omega (arith, o.cols_are))) (o.rules.narrow o.fresh (rows + 1) j (omega (arith, o.rows_are)) (omega (arith, o.cols_are)))
+  small = left_below dir.a dir.b (t.entry rows j) (t.entry (rows + 1) j) dir.a_narrow dir.b_narrow
+      (o.rules.narrow o.fresh rows j (omega (arith, o.rows_are)) (omega (arith, o.cols_are)))
+      (o.rules.narrow o.fresh (rows + 1) j (omega (arith, o.rows_are)) (omega (arith, o.cols_are)))
 
   row_falls : Improves t rows dir j → turning_row t rows dir j <ℤ pos 0
-  row_falls improves = subst (λ x. x <ℤ pos 0) (sym (turning_row_is t rows dir j)) (negative_sum heavy (reduced t rows dir j) (reduced_left t rows dir j) small improves)
+  row_falls improves = subst (λ x. x <ℤ pos 0) (sym (turning_row_is t rows dir j))
+      (negative_sum heavy (reduced t rows dir j) (reduced_left t rows dir j) small improves)
 
   row_stays : (Improves t rows dir j → ⊥) → pos 0 ≤ℤ turning_row t rows dir j
-  row_stays none = subst (λ x. pos 0 ≤ℤ x) (sym (turning_row_is t rows dir j)) (sum_not_negative heavy (reduced t rows dir j) (reduced_left t rows dir j) small none)
+  row_stays none = subst (λ x. pos 0 ≤ℤ x) (sym (turning_row_is t rows dir j))
+      (sum_not_negative heavy (reduced t rows dir j) (reduced_left t rows dir j) small none)
 
 -- ---- payoffs are bounded in each weighting
 
@@ -109,10 +114,13 @@ multiple_bound (negsuc n) bound x low high =
     opposite n bound = neg_ℤ-*ℤ (pos (suc n)) (neg_ℤ bound) ∙ (ap neg_ℤ (*ℤ-neg_ℤ (pos (suc n)) bound) ∙ neg_ℤ-neg_ℤ (pos (suc n) *ℤ bound))
 
 module _ (lp : LpView) where
-  pub solution_of : (total : ℤ) (x : ℕ → ℤ) → simplex.IsSolution (length lp.rows) lp.cols (side lp) (column (start_entry lp)) total x → IsSolution lp total x
+  pub solution_of : (total : ℤ) (x : ℕ → ℤ) → simplex.IsSolution (length lp.rows) lp.cols (side lp) (column (start_entry lp)) total x →
+      IsSolution lp total x
   solution_of total x solution = record {
     not_negative = solution.positive;
-    meets = λ row h. sum_to-same lp.cols (λ col. coefficient lp row col *ℤ x col) (λ j. start_entry lp row j *ℤ x j) (λ j l. ap (λ e. e *ℤ x j) (sym (entry_program lp row j h l))) ∙ (solution.makes row h ∙ ap (λ e. total *ℤ e) (entry_right lp row h));
+    meets = λ row h. sum_to-same lp.cols (λ col. coefficient lp row col *ℤ x col) (λ j. start_entry lp row j *ℤ x j)
+        (λ j l. ap (λ e. e *ℤ x j) (sym (entry_program lp row j h l))) ∙
+        (solution.makes row h ∙ ap (λ e. total *ℤ e) (entry_right lp row h));
   }
 
   -- The payoff of a column in a weighting.
@@ -121,18 +129,24 @@ module _ (lp : LpView) where
 
   pub weighted_sum : (a b : ℤ) (x : ℕ → ℤ) → sum_to lp.cols (λ j. weighted a b j *ℤ x j) ≡ a *ℤ paid lp One x +ℤ b *ℤ paid lp Two x
   weighted_sum a b x =
-      sum_to-same lp.cols (λ j. weighted a b j *ℤ x j) (λ j. a *ℤ (payoff_of One lp j *ℤ x j) +ℤ b *ℤ (payoff_of Two lp j *ℤ x j)) (λ j l. parted a b (payoff_of One lp j) (payoff_of Two lp j) (x j))
+      sum_to-same lp.cols (λ j. weighted a b j *ℤ x j) (λ j. a *ℤ (payoff_of One lp j *ℤ x j) +ℤ b *ℤ (payoff_of Two lp j *ℤ x j))
+      (λ j l. parted a b (payoff_of One lp j) (payoff_of Two lp j) (x j))
       ∙ (sum_to-add lp.cols (λ j. a *ℤ (payoff_of One lp j *ℤ x j)) (λ j. b *ℤ (payoff_of Two lp j *ℤ x j))
-      ∙ ap₂ (λ u v. u +ℤ v) (sum_to-scale lp.cols a (λ j. payoff_of One lp j *ℤ x j)) (sum_to-scale lp.cols b (λ j. payoff_of Two lp j *ℤ x j)))
+      ∙ ap₂ (λ u v. u +ℤ v) (sum_to-scale lp.cols a (λ j. payoff_of One lp j *ℤ x j))
+      (sum_to-scale lp.cols b (λ j. payoff_of Two lp j *ℤ x j)))
     where
       parted : (a b p q x : ℤ) → (a *ℤ p +ℤ b *ℤ q) *ℤ x ≡ a *ℤ (p *ℤ x) +ℤ b *ℤ (q *ℤ x)
       parted a b p q x = simp ring_laws (omega (arith, linear))
 
-  weighted_bound : (a b bound total : ℤ) (x : ℕ → ℤ) → pos 0 <ℤ total → IsBoundedBy lp bound → IsSolution lp total x → sum_to lp.cols (λ j. weighted a b j *ℤ x j) ≤ℤ (pos (unsigned_abs a) *ℤ (bound *ℤ total) +ℤ pos (unsigned_abs b) *ℤ (bound *ℤ total))
+  weighted_bound : (a b bound total : ℤ) (x : ℕ → ℤ) → pos 0 <ℤ total → IsBoundedBy lp bound → IsSolution lp total x →
+      sum_to lp.cols (λ j. weighted a b j *ℤ x j) ≤ℤ (pos (unsigned_abs a) *ℤ (bound *ℤ total) +ℤ pos (unsigned_abs b) *ℤ (bound *ℤ total))
   weighted_bound a b bound total x positive bounded solution =
-      let one = multiple_bound a (bound *ℤ total) (paid lp One x) (bounded.at_least One total x positive solution) (bounded.at_most One total x positive solution) in
-      let two = multiple_bound b (bound *ℤ total) (paid lp Two x) (bounded.at_least Two total x positive solution) (bounded.at_most Two total x positive solution) in
-      subst (λ e. e ≤ℤ (pos (unsigned_abs a) *ℤ (bound *ℤ total) +ℤ pos (unsigned_abs b) *ℤ (bound *ℤ total))) (sym (weighted_sum a b x)) (omega (arith, linear))
+      let one = multiple_bound a (bound *ℤ total) (paid lp One x) (bounded.at_least One total x positive solution)
+      (bounded.at_most One total x positive solution) in
+      let two = multiple_bound b (bound *ℤ total) (paid lp Two x) (bounded.at_least Two total x positive solution)
+      (bounded.at_most Two total x positive solution) in
+      subst (λ e. e ≤ℤ (pos (unsigned_abs a) *ℤ (bound *ℤ total) +ℤ pos (unsigned_abs b) *ℤ (bound *ℤ total))) (sym (weighted_sum a b x))
+      (omega (arith, linear))
 
   -- The costs of the row in which both objectives are one.
   turning_costs : Dir → ℕ → ℤ
@@ -140,7 +154,8 @@ module _ (lp : LpView) where
 
   costs_negated : (dir : Dir) (j : ℕ) → j < lp.cols → turning_costs dir j ≡ neg_ℤ (weighted (by_first dir) (by_second dir) j)
   unfolding turning_costs
-  costs_negated dir j l = rw (first_program lp j l, second_program lp j l) (negated (by_first dir) (by_second dir) (payoff_of One lp j) (payoff_of Two lp j))
+  costs_negated dir j l = rw (first_program lp j l, second_program lp j l)
+      (negated (by_first dir) (by_second dir) (payoff_of One lp j) (payoff_of Two lp j))
     where
       negated : (a b p q : ℤ) → a *ℤ neg_ℤ p +ℤ b *ℤ neg_ℤ q ≡ neg_ℤ (a *ℤ p +ℤ b *ℤ q)
       negated a b p q = simp ring_laws (omega (arith, linear))
@@ -152,26 +167,35 @@ module _ (lp : LpView) where
       nothing : (a b : ℤ) → a *ℤ pos 0 +ℤ b *ℤ pos 0 ≡ pos 0
       nothing a b = simp ring_laws (omega (arith, linear))
 
-  priced_row : (t : Content) (dir : Dir) → IsReady lp t → IsCostRow (length lp.rows) (width lp) (turning_costs dir) t.basic t.denom t.entry (turning_row t (length lp.rows) dir)
+  priced_row : (t : Content) (dir : Dir) → IsReady lp t →
+      IsCostRow (length lp.rows) (width lp) (turning_costs dir) t.basic t.denom t.entry (turning_row t (length lp.rows) dir)
   unfolding turning_costs turning_row
   priced_row t dir ready =
       let whole = whole_of lp t ready.open ready.reached in
-      costs_combined (by_first dir) (by_second dir) (whole.costs (length lp.rows) (omega arith) (omega arith)) (whole.costs (length lp.rows + 1) (omega arith) (omega arith))
+      costs_combined (by_first dir) (by_second dir) (whole.costs (length lp.rows) (omega arith) (omega arith))
+      (whole.costs (length lp.rows + 1) (omega arith) (omega arith))
 
   -- A row for the ratio rule.
-  pub turning_ratio : (t : Content) (dir : Dir) (col : ℕ) → IsReady lp t → HasBoundedPayoffs lp → col < lp.cols → Improves t (length lp.rows) dir col → (row : ℕ) × (row < length lp.rows) × (pos 0 <ℤ t.entry row col)
+  pub turning_ratio : (t : Content) (dir : Dir) (col : ℕ) → IsReady lp t → HasBoundedPayoffs lp → col < lp.cols →
+      Improves t (length lp.rows) dir col → (row : ℕ) × (row < length lp.rows) × (pos 0 <ℤ t.entry row col)
   turning_ratio t dir col ready (bound, bounded) l improves =
       let whole = whole_of lp t ready.open ready.reached in
-      some_ratio whole.program (priced_row t dir ready) lp.cols (side lp) (omega arith) (omega arith) (weighted (by_first dir) (by_second dir)) (costs_negated dir) (costs_free dir) ready.feasible col l (row_falls (length lp.rows) lp.cols t ready.open dir col (omega arith) improves) ends
-      (pos (unsigned_abs (by_first dir)) *ℤ (bound *ℤ t.denom) +ℤ pos (unsigned_abs (by_second dir)) *ℤ (bound *ℤ t.denom)) (λ x solution. weighted_bound (by_first dir) (by_second dir) bound t.denom x whole.program.positive bounded (solution_of t.denom x solution))
+      some_ratio whole.program (priced_row t dir ready) lp.cols (side lp) (omega arith) (omega arith)
+      (weighted (by_first dir) (by_second dir)) (costs_negated dir) (costs_free dir) ready.feasible col l
+      (row_falls (length lp.rows) lp.cols t ready.open dir col (omega arith) improves) ends
+      (pos (unsigned_abs (by_first dir)) *ℤ (bound *ℤ t.denom) +ℤ pos (unsigned_abs (by_second dir)) *ℤ (bound *ℤ t.denom))
+      (λ x solution. weighted_bound (by_first dir) (by_second dir) bound t.denom x whole.program.positive bounded
+      (solution_of t.denom x solution))
     where
       ends : (k : ℕ) → k < length lp.rows → (t.basic k < lp.cols) ⊎ ((t.entry k (side lp) ≡ pos 0) × (t.entry k col ≡ pos 0))
       ends k h = ⊎_elim (λ (low : t.basic k < lp.cols). inl low) (λ (high : lp.cols ≤ t.basic k). let inert = ready.inert k h high in inr (inert.level, inert.empty col l)) (cases_lt (t.basic k) lp.cols)
 
   -- A turn leaves a ready tableau.
-  pub ready_after : (old new : Content) (row col : ℕ) → IsReady lp old → IsTableau new → IsPivoted old new row col → col < lp.cols → IsLeastRatio (length lp.rows) (side lp) old.entry row col → IsReady lp new
+  pub ready_after : (old new : Content) (row col : ℕ) → IsReady lp old → IsTableau new → IsPivoted old new row col → col < lp.cols →
+      IsLeastRatio (length lp.rows) (side lp) old.entry row col → IsReady lp new
   ready_after old new row col ready rules pivoted program ratio =
-      let way = way_after lp old new row col record { «open» = ready.open; reached = ready.reached; feasible = ready.feasible } rules pivoted (omega arith) ratio in
+      let way = way_after lp old new row col record { «open» = ready.open; reached = ready.reached; feasible = ready.feasible } rules
+      pivoted (omega arith) ratio in
       record { «open» = way.open; reached = way.reached; feasible = way.feasible; inert = inert }
     where
       inert : (k : ℕ) → k < length lp.rows → lp.cols ≤ new.basic k → IsInert lp.cols (side lp) new.entry k
@@ -179,7 +203,9 @@ module _ (lp : LpView) where
           (λ (e : k ≡ row). let enters = ap (λ i. new.basic i) e ∙ pivoted.basis.enters in absurd (omega arith))
           (λ (d : k ≢ row).
           let same = pivoted.basis.others k d in
-          inert_kept lp.cols (side lp) k (pivot_at lp old new row col ready.open pivoted) (whole_of lp old ready.open ready.reached).program.positive (omega arith) (omega arith) program (omega arith) d (ready.inert k h (omega arith)))
+          inert_kept lp.cols (side lp) k (pivot_at lp old new row col ready.open pivoted)
+          (whole_of lp old ready.open ready.reached).program.positive (omega arith) (omega arith) program (omega arith) d
+          (ready.inert k h (omega arith)))
           (cases_eq k row)
 
   -- ---- the end by Bland's rule
@@ -191,19 +217,30 @@ module _ (lp : LpView) where
   pub turns_left : Dir → Content → ℕ
   turns_left dir t = bland_measure (length lp.rows) (width lp) lp.cols (side lp) (rank lp.cols) (turned_content dir t)
 
-  priced : (t : Content) (dir : Dir) → IsReady lp t → IsPricedTableau (length lp.rows) (width lp) (side lp) (column (start_entry lp)) (turning_costs dir) (turned_content dir t)
-  priced t dir ready = record { tableau = (whole_of lp t ready.open ready.reached).program; priced = priced_row t dir ready; feasible = ready.feasible }
+  priced : (t : Content) (dir : Dir) → IsReady lp t →
+      IsPricedTableau (length lp.rows) (width lp) (side lp) (column (start_entry lp)) (turning_costs dir) (turned_content dir t)
+  priced t dir ready = record {
+    tableau = (whole_of lp t ready.open ready.reached).program;
+    priced = priced_row t dir ready;
+    feasible =
+        ready.feasible;
+  }
 
-  pub turning_falls : (old new : Content) (dir : Dir) (row col : ℕ) → IsReady lp old → IsReady lp new → IsPivoted old new row col → IsFirst lp.cols lp.cols (Improves old (length lp.rows) dir) col → IsLeaving (length lp.rows) lp.cols (side lp) old col row → turns_left dir new < turns_left dir old
+  pub turning_falls : (old new : Content) (dir : Dir) (row col : ℕ) → IsReady lp old → IsReady lp new → IsPivoted old new row col →
+      IsFirst lp.cols lp.cols (Improves old (length lp.rows) dir) col → IsLeaving (length lp.rows) lp.cols (side lp) old col row →
+      turns_left dir new < turns_left dir old
   unfolding turns_left
   turning_falls old new dir row col ready after pivoted first leaving =
       let inside = first.offered_is in
-      let step : IsBlandStep (length lp.rows) lp.cols (side lp) (rank lp.cols) old.basic old.entry (turning_row old (length lp.rows) dir) row col = record {
+      let step : IsBlandStep (length lp.rows) lp.cols (side lp) (rank lp.cols) old.basic old.entry (turning_row old (length lp.rows) dir)
+      row col = record {
         offered = inside;
         improves = row_falls (length lp.rows) lp.cols old ready.open dir col (omega arith) first.may;
         first_column = λ j h l. row_stays (length lp.rows) lp.cols old ready.open dir j (omega arith) (first.before j h l);
         ratio = leaving.ratio;
         first_row = leaving.first;
       } in
-      bland_falls (length lp.rows) (width lp) lp.cols (side lp) (rank lp.cols) (column (start_entry lp)) (turning_costs dir) (omega arith) (omega arith) (λ i j h l. rank_once lp.cols i j)
-      (turned_content dir old) (turned_content dir new) row col (priced old dir ready) (priced new dir after) step (λ k h. moves_after lp old new row col pivoted k)
+      bland_falls (length lp.rows) (width lp) lp.cols (side lp) (rank lp.cols) (column (start_entry lp)) (turning_costs dir) (omega arith)
+      (omega arith) (λ i j h l. rank_once lp.cols i j)
+      (turned_content dir old) (turned_content dir new) row col (priced old dir ready) (priced new dir after) step
+      (λ k h. moves_after lp old new row col pivoted k)

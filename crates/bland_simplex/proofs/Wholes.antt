@@ -25,19 +25,24 @@ module _ (lp : LpView) where
   abbrev pub side : ℕ
   side = lp.cols + length lp.rows
 
-  pub whole_of : (t : Content) → IsOpenFor lp t → IsReachedFrom (start_entry lp) t → IsTableauOf (length lp.rows) (length lp.rows + 3) width (start_entry lp) t.basic t.denom t.entry
+  pub whole_of : (t : Content) → IsOpenFor lp t → IsReachedFrom (start_entry lp) t →
+      IsTableauOf (length lp.rows) (length lp.rows + 3) width (start_entry lp) t.basic t.denom t.entry
   whole_of t o reached =
       let program : t.rows - 3 ≡ length lp.rows = omega (arith, o.rows_are) in
       rw (program, o.rows_are, o.cols_are) at reached
 
-  pub pivot_at : (old new : Content) (row col : ℕ) → IsOpenFor lp old → IsPivoted old new row col → IsPivot (length lp.rows + 3) width row col old.denom old.entry new.entry
+  pub pivot_at : (old new : Content) (row col : ℕ) → IsOpenFor lp old → IsPivoted old new row col →
+      IsPivot (length lp.rows + 3) width row col old.denom old.entry new.entry
   pivot_at old new row col o pivoted = rw (o.rows_are, o.cols_are) at (pivot_of old new row col pivoted)
 
   pub open_after : (old new : Content) (row col : ℕ) → IsOpenFor lp old → IsTableau new → IsPivoted old new row col → IsOpenFor lp new
-  open_after old new row col o rules pivoted = record { rules = rules; fresh = pivoted.fresh; rows_are = pivoted.basis.rows ∙ o.rows_are; cols_are = pivoted.basis.cols ∙ o.cols_are }
+  open_after old new row col o rules pivoted = record
+      { rules = rules; fresh = pivoted.fresh; rows_are = pivoted.basis.rows ∙ o.rows_are; cols_are = pivoted.basis.cols ∙ o.cols_are }
 
-  pub reached_after : (old new : Content) (row col : ℕ) → IsOpenFor lp old → row < length lp.rows → col < side → old.entry row col ≢ pos 0 → IsPivoted old new row col → IsReachedFrom (start_entry lp) old → IsReachedFrom (start_entry lp) new
-  reached_after old new row col o in_rows in_columns other pivoted reached = start_kept (start_entry lp) old new row col (omega (arith, o.rows_are)) (omega (arith, o.rows_are)) (omega (arith, o.cols_are)) other pivoted reached
+  pub reached_after : (old new : Content) (row col : ℕ) → IsOpenFor lp old → row < length lp.rows → col < side →
+      old.entry row col ≢ pos 0 → IsPivoted old new row col → IsReachedFrom (start_entry lp) old → IsReachedFrom (start_entry lp) new
+  reached_after old new row col o in_rows in_columns other pivoted reached = start_kept (start_entry lp) old new row col
+      (omega (arith, o.rows_are)) (omega (arith, o.rows_are)) (omega (arith, o.cols_are)) other pivoted reached
 
   -- The basis after a pivot as a family with one column changed.
   pub moves_after : (old new : Content) (row col : ℕ) → IsPivoted old new row col → (k : ℕ) → new.basic k ≡ put old.basic row col k
@@ -48,7 +53,8 @@ module _ (lp : LpView) where
       (cases_eq k row)
 
   -- A pivot by the ratio rule stays under way.
-  pub way_after : (old new : Content) (row col : ℕ) → IsUnderWay lp old → IsTableau new → IsPivoted old new row col → col < side → IsLeastRatio (length lp.rows) side old.entry row col → IsUnderWay lp new
+  pub way_after : (old new : Content) (row col : ℕ) → IsUnderWay lp old → IsTableau new → IsPivoted old new row col → col < side →
+      IsLeastRatio (length lp.rows) side old.entry row col → IsUnderWay lp new
   way_after old new row col way rules pivoted in_columns ratio =
       let o = way.open in
       let over = ratio.positive in
@@ -56,5 +62,6 @@ module _ (lp : LpView) where
       record {
         «open» = open_after old new row col o rules pivoted;
         reached = reached_after old new row col o ratio.within in_columns other pivoted way.reached;
-        feasible = (ratio_step side (whole_of old o way.reached) (omega arith) (omega arith) (omega arith) (pivot_at old new row col o pivoted) way.feasible ratio).1;
+        feasible = (ratio_step side (whole_of old o way.reached) (omega arith) (omega arith) (omega arith)
+            (pivot_at old new row col o pivoted) way.feasible ratio).1;
       }

@@ -7,7 +7,8 @@ use Rattle.bland_simplex.specs.Steps.{StepsEnd, stays, IsFirstStep}
 use Rattle.bland_simplex.proofs.first_phase.feasible.Goals as goal
 
 pub lower_phase-requires : goal.lower_phase-requires
-lower_phase-requires g c = way_of_start c.args.lp.now (g.T.Tableau.content c.args.table.now) c.requires.program c.requires.start c.requires.rules
+lower_phase-requires g c = way_of_start c.args.lp.now (g.T.Tableau.content c.args.table.now)
+    c.requires.program c.requires.start c.requires.rules
 
 pub returns-in_err-list-clause-end : goal.returns-in_err-list-clause-end
 returns-in_err-list-clause-end g c =
@@ -16,23 +17,34 @@ returns-in_err-list-clause-end g c =
 
 pub returns-in_err-drive_out-clause-end : goal.returns-in_err-drive_out-clause-end
 returns-in_err-drive_out-clause-end g c =
-    error_named _ _ (StepsEnd (IsFirstStep c.args.lp.now) (g.T.Tableau.content c.args.table.now) (g.T.Tableau.content c.drive_out.new.table)) c.from_residual-in_err-drive_out.ensures.1
-    (ends_on (g.T.Tableau.content c.args.table.now) (g.T.Tableau.content c.lower_phase.new.table) (g.T.Tableau.content c.drive_out.new.table) c.in_err-drive_out.field-0.0 c.in_ok-lower_phase.ensures.steps c.in_err-drive_out.ensures.end)
+    error_named _ _ (StepsEnd (IsFirstStep c.args.lp.now) (g.T.Tableau.content c.args.table.now)
+    (g.T.Tableau.content c.drive_out.new.table)) c.from_residual-in_err-drive_out.ensures.1
+    (ends_on (g.T.Tableau.content c.args.table.now) (g.T.Tableau.content c.lower_phase.new.table)
+    (g.T.Tableau.content c.drive_out.new.table)
+    c.in_err-drive_out.field-0.0 c.in_ok-lower_phase.ensures.steps c.in_err-drive_out.ensures.end)
 
 pub returns-in_ok-drive_out-clause-steps : goal.returns-in_ok-drive_out-clause-steps
-returns-in_ok-drive_out-clause-steps g c = leads_on (g.T.Tableau.content c.args.table.now) (g.T.Tableau.content c.lower_phase.new.table) (g.T.Tableau.content c.drive_out.new.table) c.in_ok-lower_phase.ensures.steps c.in_ok-drive_out.ensures.steps
+returns-in_ok-drive_out-clause-steps g c = leads_on (g.T.Tableau.content c.args.table.now) (g.T.Tableau.content c.lower_phase.new.table)
+    (g.T.Tableau.content c.drive_out.new.table) c.in_ok-lower_phase.ensures.steps c.in_ok-drive_out.ensures.steps
 
 pub returns-in_ok-drive_out-clause-exactly : goal.returns-in_ok-drive_out-clause-exactly
-returns-in_ok-drive_out-clause-exactly g c = ready_solution c.args.lp.now (g.T.Tableau.content c.drive_out.new.table) c.in_ok-drive_out.ensures.ready
+returns-in_ok-drive_out-clause-exactly g c = ready_solution c.args.lp.now (g.T.Tableau.content c.drive_out.new.table)
+    c.in_ok-drive_out.ensures.ready
 
 pub returns-in_ok-multipliers-clause-found : goal.returns-in_ok-multipliers-clause-found
 returns-in_ok-multipliers-clause-found g c =
     let stuck = c.in_ok-lower_phase.ensures.stuck c.if-branch.false in
-    let are = rw (c.of-shape.ensures.rows, c.of-shape.ensures.cols) at c.in_ok-multipliers.ensures.read in
-    (stuck, are, stuck_shows c.args.lp.now (g.T.Tableau.content c.lower_phase.new.table) c.in_ok-lower_phase.ensures.way _ are c.requires.program stuck)
+    let are = rw (c.of-shape.ensures.rows, c.of-shape.ensures.cols) at c.in_ok-multipliers.ensures.read in (
+      stuck,
+      are,
+      stuck_shows c.args.lp.now (g.T.Tableau.content c.lower_phase.new.table)
+          c.in_ok-lower_phase.ensures.way _ are c.requires.program stuck,
+    )
 
 pub returns-in_ok-multipliers-clause-exactly : goal.returns-in_ok-multipliers-clause-exactly
 returns-in_ok-multipliers-clause-exactly g c =
     let stuck = c.in_ok-lower_phase.ensures.stuck c.if-branch.false in
     let are = rw (c.of-shape.ensures.rows, c.of-shape.ensures.cols) at c.in_ok-multipliers.ensures.read in
-    shown_empty c.args.lp.now c.requires.program _ (stuck_shows c.args.lp.now (g.T.Tableau.content c.lower_phase.new.table) c.in_ok-lower_phase.ensures.way _ are c.requires.program stuck)
+    shown_empty c.args.lp.now c.requires.program _
+    (stuck_shows c.args.lp.now (g.T.Tableau.content c.lower_phase.new.table)
+    c.in_ok-lower_phase.ensures.way _ are c.requires.program stuck)

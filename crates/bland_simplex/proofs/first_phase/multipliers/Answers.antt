@@ -9,5 +9,8 @@ loop-row-preserved g c =
     let rows = c.args.shape.rows in
     let cols = c.args.shape.cols in
     let n = c.loop-row.row in
-    let read = read_difference c.denom-denom.result c.entry-phase.result c.difference.result t.denom (t.entry (rows + 2) (cols + n)) c.denom-denom.ensures.value c.entry-phase.ensures.value c.denom-denom.ensures.narrow c.entry-phase.ensures.narrow (c.requires.open.rules.positive c.requires.open.fresh) (c.requires.stuck.not_negative (cols + n) (omega arith)) c.difference.ensures in
+    let read = read_difference c.denom-denom.result c.entry-phase.result c.difference.result t.denom (t.entry (rows + 2) (cols + n))
+    c.denom-denom.ensures.value c.entry-phase.ensures.value c.denom-denom.ensures.narrow c.entry-phase.ensures.narrow
+    (c.requires.open.rules.positive c.requires.open.fresh) (c.requires.stuck.not_negative (cols + n) (omega arith))
+    c.difference.ensures in
     read_more rows cols t n c.loop-row.list c.push.new.self _ c.loop-row.invariant c.in_ok-push.ensures.ok read.0 read.1

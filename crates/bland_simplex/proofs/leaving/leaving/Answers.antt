@@ -25,4 +25,5 @@ loop-row-preserved g c =
 pub returns : goal.returns
 returns g c =
     let end : c.loop-row.row ≡ c.args.shape.rows = omega arith in
-    leaving_at_last c.args.shape.cols (c.args.shape.cols + c.args.shape.rows) (g.T.Tableau.content c.args.table.now) c.args.col c.args.shape.rows c.loop-row.first c.unwrap.result (rw end at c.loop-row.invariant) c.unwrap.ensures
+    leaving_at_last c.args.shape.cols (c.args.shape.cols + c.args.shape.rows) (g.T.Tableau.content c.args.table.now)
+    c.args.col c.args.shape.rows c.loop-row.first c.unwrap.result (rw end at c.loop-row.invariant) c.unwrap.ensures

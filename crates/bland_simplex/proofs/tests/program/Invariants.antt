@@ -4,4 +4,5 @@ use Rattle.std.specs.Prelude.{replicate, slice_set}
 use Rattle.bland_simplex.proofs.tests.program.Given as goal
 
 abbrev pub invariant-loop-row : goal.invariant-loop-row
-invariant-loop-row l = (length l.lp.rows ≡ length l.coefficients) × (l.lp.cols ≡ 2) × (l.lp.rights ≡ slice_set (replicate (length l.coefficients) (pos 0)) 0 (pos 1))
+invariant-loop-row l = (length l.lp.rows ≡ length l.coefficients) × (l.lp.cols ≡ 2) ×
+    (l.lp.rights ≡ slice_set (replicate (length l.coefficients) (pos 0)) 0 (pos 1))
