@@ -1,4 +1,4 @@
--- The columns that lower what is left to do in the first phase.
+-- The columns that lower what is left to do in the first phase (Dantzig 1963).
 use Rattle.std.specs.Prelude.{ℕ, ◌+◌, pos, ◌<ℤ◌}
 use Rattle.int_tableau.specs.Content.{Content}
 
