@@ -27,10 +27,12 @@ turned g m n (inl h) = inr h
 turned g m n (inr h) = inl h
 
 joined_from : (g : GameView) (p : PairsView) → TellsConnected g p → (side : Side) (set k : ℕ) → set < length (side_of side p.seqs).places → k < length (side_of (other side) p.seqs).places → touches p side set k ≡ true → AreJoined g side set k
+unfolding TellsConnected
 joined_from g p tells One set k low left t = (tells set k low left).0 t
 joined_from g p tells Two set k low left t = let h = (tells k set left low).0 t in (h.1, h.0, h.3, h.2, turned g h.0 h.1 h.4)
 
 touches_from : (g : GameView) (p : PairsView) → TellsConnected g p → (side : Side) (set k : ℕ) → set < length (side_of side p.seqs).places → k < length (side_of (other side) p.seqs).places → AreJoined g side set k → touches p side set k ≡ true
+unfolding TellsConnected
 touches_from g p tells One set k low left h = (tells set k low left).1 h
 touches_from g p tells Two set k low left h = (tells k set left low).1 (h.1, h.0, h.3, h.2, turned g h.0 h.1 h.4)
 
@@ -69,6 +71,7 @@ joined_back g rules side l m n a k e f h (inr above) = elim (comparable g rules 
 ]
 
 pub closed : (g : GameView) → IsGame g → (p : PairsView) → IsPairs p → ((side : Side) → IsSideOf side g (side_of side p.seqs)) → TellsConnected g p → (side : Side) → IsClosedBack p side
+unfolding IsClosedBack
 closed g rules p pairs of tells side set k place move room t at e =
     let v = side_of side p.seqs in
     let h = joined_from g p tells side set k (slice_get_within v.places set place at) room t in
@@ -81,6 +84,7 @@ closed g rules p pairs of tells side set k place move room t at e =
 
 -- the table over the game's sets is one over the places of their sequences
 tells : (g : GameView) (p : PairsView) → ((side : Side) → IsSideOf side g (side_of side p.seqs)) → IsTable g p.table → TellsConnected g p
+unfolding TellsConnected
 tells g p of table one two low left =
     let sets : AreSets g one two = (omega (arith, (of One).per_set), omega (arith, (of Two).per_set)) in
     rw (of Two).per_set (table one two sets)

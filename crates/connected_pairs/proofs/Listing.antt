@@ -9,7 +9,7 @@ use Rattle.sequences.proofs.Adding.{still, pushed, within}
 use Rattle.corr_game.specs.declared.sides.Side.TheVariants.{One, Two}
 use Rattle.corr_game.specs.Game.{GameView}
 use Rattle.sequences.specs.Number.{SeqsView, SideView, IsSide, IsSeqsOf, side_of, count_of}
-use Rattle.connected_pairs.specs.Connected.{PairsView, IsPairs, IsListed, IsPlaced, is_relevant}
+use Rattle.connected_pairs.specs.Connected.{PairsView, IsPairs, IsListed, IsPlaced, AreRowByRow, is_relevant}
 
 -- the entry at row a and column b is one of the table's
 pub cell : (a b w h width count : ℕ) → a < h → b < w → width ≡ w → count ≡ h * w → a * width + b < count
@@ -27,6 +27,7 @@ grown s table pairs more pair None h = h
 grown s table pairs more pair (Some k) h = still pairs (more ∷ []) k pair h
 
 pub none_listed : (s : SeqsView) (table : List Bool) → IsListed s table 0 [] []
+unfolding AreRowByRow
 none_listed s table = record {
   all = refl;
   at_most = omega arith;
@@ -39,6 +40,7 @@ none_listed s table = record {
 pub list-relevant : (s : SeqsView) (table : List Bool) (count one two next : ℕ) (pairs : List (ℕ × ℕ)) (places : List (Option ℕ)) → IsListed s table count pairs places
     → one < count_of s.one → two < count_of s.two → count ≡ one * count_of s.two + two → next ≡ count + 1 → is_relevant s table one two ≡ true
     → IsListed s table next (pairs ++ (one, two) ∷ []) (places ++ Some (length pairs) ∷ [])
+unfolding AreRowByRow
 list-relevant s table count one two next pairs places p low left e n related = record {
   all = length_push places (Some (length pairs)) ∙ omega (arith, p.all, n);
   at_most = omega (arith, length_push pairs (one, two), p.at_most, n);
@@ -101,6 +103,7 @@ whole g s table pairs places one two of size listed = record {
 
 -- the first place is that of the empty sequences, and no pair stands before theirs
 first_at : (p : PairsView) → IsPairs p → (one two : ℕ) (place : Option ℕ) → one ≡ 0 → two ≡ 0 → IsPlaced p.seqs p.table p.pairs (one, two) place → slice_get p.pairs 0 ≡ Some (0, 0)
+unfolding AreRowByRow
 first_at p rules one two None e f h =
     let related : is_relevant p.seqs p.table one two ≡ true = rw e refl in
     absurd (cc)

@@ -46,14 +46,18 @@ IsPlaced s table pairs pair (Some k) = slice_get pairs k ≡ Some pair
 abbrev pub IsPlaceAt : SeqsView → List Bool → List (ℕ × ℕ) → ℕ → Option ℕ → Type 0
 IsPlaceAt s table pairs k place = (pair : ℕ × ℕ) × (pair.1 < count_of s.two) × (k ≡ pair.0 * count_of s.two + pair.1) × IsPlaced s table pairs pair place
 
--- the pairs and places that were gone over, `count` of them: the pairs stand row by row
+-- the pairs stand in rows of player 1's sequences, each in the order of player 2's
+unfoldable pub AreRowByRow : SeqsView → List (ℕ × ℕ) → Type 0
+AreRowByRow s pairs = (j k : ℕ) (a b : ℕ × ℕ) → slice_get pairs j ≡ Some a → slice_get pairs k ≡ Some b → j < k → a.0 * count_of s.two + a.1 < b.0 * count_of s.two + b.1
+
+-- the pairs and places that were gone over, `count` of them
 pub record IsListed (s : SeqsView) (table : List Bool) (count : ℕ) (pairs : List (ℕ × ℕ)) (places : List (Option ℕ)) : Type 0 where
   pub all : length places ≡ count
   pub at_most : length pairs ≤ count
   pub each_pair : (k : ℕ) (pair : ℕ × ℕ) → slice_get pairs k ≡ Some pair → IsPair s table pair
   pub each_index : (k : ℕ) (pair : ℕ × ℕ) → slice_get pairs k ≡ Some pair → slice_get places (pair.0 * count_of s.two + pair.1) ≡ Some (Some k)
   pub each_place : (k : ℕ) (place : Option ℕ) → slice_get places k ≡ Some place → IsPlaceAt s table pairs k place
-  pub in_order : (j k : ℕ) (a b : ℕ × ℕ) → slice_get pairs j ≡ Some a → slice_get pairs k ≡ Some b → j < k → a.0 * count_of s.two + a.1 < b.0 * count_of s.two + b.1
+  pub in_order : AreRowByRow s pairs
 
 -- the rules of the table, the list and the indices
 pub record IsPairs (p : PairsView) : Type 0 where
@@ -77,11 +81,11 @@ pub data IsPrefix (v : SideView) (part : ℕ) : ℕ → Type 0 where
   longer : (seq own : ℕ) (move : SetId × ℕ) → last_of v seq ≡ Some move → IsOwn v move.0.0 own → IsPrefix v part own → IsPrefix v part seq
 
 -- the table says of each two sets whether they are connected in the tree
-abbrev pub TellsConnected : GameView → PairsView → Type 0
+unfoldable pub TellsConnected : GameView → PairsView → Type 0
 TellsConnected g p = (one two : ℕ) → one < length p.seqs.one.places → two < length p.seqs.two.places → (are_connected p one two ≡ true) ↔ AreConnected g one two
 
 -- where two sets are connected, the last set before one is connected to the other
-abbrev pub IsClosedBack : PairsView → Side → Type 0
+unfoldable pub IsClosedBack : PairsView → Side → Type 0
 IsClosedBack p side = (set k : ℕ) (place : Place) (move : SetId × ℕ) → k < length (side_of (other side) p.seqs).places → touches p side set k ≡ true → slice_get (side_of side p.seqs).places set ≡ Some place
     → last_of (side_of side p.seqs) place.own ≡ Some move → touches p side move.0.0 k ≡ true
 

@@ -1,6 +1,6 @@
 -- A choice at the centre of a star keeps every relevant pair that the two plans play positive. The statements speak of one
 -- player v, the other player w, whether a set of v is connected to one of w, and the value at a sequence of v and one of w.
-use Rattle.std.proofs.Common.{◌≡◌, ℕ, ◌+◌, ◌<◌, zero, suc, Bool, true, ℤ, pos, ◌≤ℤ◌, List, Option, Some, None, slice_get, refl, ap, ◌∙◌, arith}
+use Rattle.std.proofs.Common.{◌≡◌, ℕ, ◌+◌, ◌<◌, zero, suc, Bool, true, ℤ, pos, ◌≤ℤ◌, List, Option, Some, None, length, slice_get, refl, ap, ◌∙◌, arith}
 use Rattle.std.proofs.lemmas.Int.{ints}
 use Rattle.std.proofs.lemmas.Option.{slice_get_within}
 use Rattle.exact_algebra.specs.Sums.{sum_to}
@@ -9,7 +9,7 @@ use Rattle.exact_algebra.proofs.SumOrder.{sum_to_at_most, term_at_most}
 use Rattle.corr_game.specs.declared.nodes.SetId.{SetId}
 use Rattle.sequences.specs.declared.places.Place.{Place}
 use Rattle.sequences.specs.Number.{SideView, IsSide, Plays, nothing, further, last_of, count_of}
-use Rattle.sequences.proofs.Holding.{plays-back}
+use Rattle.sequences.proofs.Holding.{plays-back, set_in}
 use Rattle.connected_pairs.specs.Connected.{IsPrefix, itself, longer}
 
 -- a last move, if there is one, is at a set with this property
@@ -30,8 +30,8 @@ pub record HasRows (v w : SideView) (join : ℕ → ℕ → Bool) (value : ℕ �
   pub row : (set : ℕ) (place : Place) (y : ℕ) → slice_get v.places set ≡ Some place → y < count_of w → Near (join set) (last_of w y) → sum_to place.actions (λ a. value (place.first + a) y) ≡ value place.own y
 
 -- connection goes back along the own sequence
-pub record IsClosed (v : SideView) (join : ℕ → ℕ → Bool) : Type 0 where
-  pub back : (set k : ℕ) (place : Place) (move : SetId × ℕ) → join set k ≡ true → slice_get v.places set ≡ Some place → last_of v place.own ≡ Some move → join move.0.0 k ≡ true
+pub record IsClosed (v w : SideView) (join : ℕ → ℕ → Bool) : Type 0 where
+  pub back : (set k : ℕ) (place : Place) (move : SetId × ℕ) → k < length w.places → join set k ≡ true → slice_get v.places set ≡ Some place → last_of v place.own ≡ Some move → join move.0.0 k ≡ true
 
 pub record IsSetting (v w : SideView) (join : ℕ → ℕ → Bool) (value : ℕ → ℕ → ℤ) : Type 0 where
   pub side_v : IsSide v
@@ -39,8 +39,8 @@ pub record IsSetting (v w : SideView) (join : ℕ → ℕ → Bool) (value : ℕ
   pub rows_v : HasRows v w join value
   pub rows_w : HasRows w v (λ k i. join i k) (λ y x. value x y)
   pub not_negative : (x y : ℕ) → pos 0 ≤ℤ value x y
-  pub closed_v : IsClosed v join
-  pub closed_w : IsClosed w (λ k i. join i k)
+  pub closed_v : IsClosed v w join
+  pub closed_w : IsClosed w v (λ k i. join i k)
 
 pub plays_in : (v : SideView) (plan : List (Option ℕ)) (x : ℕ) → Plays v plan x → x < count_of v
 plays_in v plan _ nothing = omega arith
@@ -69,7 +69,7 @@ at_most_prefix v w join value s x end last low y _ (longer (suc k) own move e o 
     let this : at.0.first + move.1 ≡ suc k = omega (arith, at.3) in
     let place : at.0 ≡ o.0 = cc (at.1, o.1) in
     let before : at.0.own ≡ own = ap (λ (q : Place). q.own) place ∙ o.2 in
-    let near_own = near_from (join end.0.0) (last_of w own) (λ m h. s.closed_w.back move.0.0 end.0.0 at.0 m here at.1 (ap (last_of w) before ∙ h)) in
+    let near_own = near_from (join end.0.0) (last_of w own) (λ m h. s.closed_w.back move.0.0 end.0.0 at.0 m (set_in v s.side_v x end last) here at.1 (ap (last_of w) before ∙ h)) in
     let less = at_most_prefix v w join value s x end last low y own rest near_own in
     omega (arith, ints, row, term, ap (value x) this, ap (value x) before, less)
 

@@ -9,13 +9,13 @@ use Rattle.corr_game.specs.declared.sides.Side.TheVariants.{One, Two}
 use Rattle.corr_game.specs.Game.{GameView}
 use Rattle.sequences.specs.Number.{SideView, Ends, nothing, last_of, side_of}
 use Rattle.sequences.proofs.Adding.{within}
-use Rattle.connected_pairs.specs.Connected.{PairsView, IsPairs, IsPairsOf, IsTouched, are_connected, index_of, other, touches}
+use Rattle.connected_pairs.specs.Connected.{PairsView, IsClosedBack, IsPairs, IsPairsOf, IsTouched, are_connected, index_of, other, touches}
 use Rattle.triangle_test.specs.declared.triangles.Quad.{Quad}
 use Rattle.plan_decompose.specs.declared.opens.Open.{Open}
 use Rattle.plan_decompose.specs.declared.walks.Walk.{Walk}
 use Rattle.plan_decompose.specs.Fair.{IsCentre, IsFair, IsHalf, IsLongest, IsNext, IsNotOne, IsOnlyJoined, Waits}
 use Rattle.plan_decompose.specs.OpenSets.{AreMoved, AreOpened}
-use Rattle.plan_decompose.specs.Solution.{ArePositive, IsClosedBack, IsSolution, MeetsRows, value_at, value_of}
+use Rattle.plan_decompose.specs.Solution.{ArePositive, IsSolution, MeetsRows, value_at, value_of}
 use Rattle.plan_decompose.specs.Walk.{IsFresh, IsOpenOf, IsWalk, part_of}
 use Rattle.plan_decompose.proofs.Fairness.{IsSetting, Near}
 use Rattle.plan_decompose.proofs.Stars.{HasNoPath, IsChoice, centre_first, centre_only, half_after, other_half_after, positive_after, some_move}
@@ -41,25 +41,27 @@ value_not_negative values h None = omega (arith, ints)
 value_not_negative values h (Some k) = h k
 
 pub setting_one : (p : PairsView) (values : List ℤ) → IsPairs p → MeetsRows p values → ((side : Side) → IsClosedBack p side) → IsSetting p.seqs.one p.seqs.two (λ i k. are_connected p i k) (λ x y. value_of p values One x y)
+unfolding IsClosedBack
 setting_one p values rules s closed = record {
   side_v = rules.sides One;
   side_w = rules.sides Two;
   rows_v = record { row = λ set place y at low near. s.row One set place y at low (touched_two p set (last_of p.seqs.two y) near) };
   rows_w = record { row = λ set place x at low near. s.row Two set place x at low (touched_one p set (last_of p.seqs.one x) near) };
   not_negative = λ x y. value_not_negative values s.not_negative (index_of p x y);
-  closed_v = record { back = λ set k place move j at e. closed One set k place move j at e };
-  closed_w = record { back = λ set k place move j at e. closed Two set k place move j at e };
+  closed_v = record { back = λ set k place move low j at e. closed One set k place move low j at e };
+  closed_w = record { back = λ set k place move low j at e. closed Two set k place move low j at e };
 }
 
 pub setting_two : (p : PairsView) (values : List ℤ) → IsPairs p → MeetsRows p values → ((side : Side) → IsClosedBack p side) → IsSetting p.seqs.two p.seqs.one (λ k i. are_connected p i k) (λ y x. value_of p values Two y x)
+unfolding IsClosedBack
 setting_two p values rules s closed = record {
   side_v = rules.sides Two;
   side_w = rules.sides One;
   rows_v = record { row = λ set place x at low near. s.row Two set place x at low (touched_one p set (last_of p.seqs.one x) near) };
   rows_w = record { row = λ set place y at low near. s.row One set place y at low (touched_two p set (last_of p.seqs.two y) near) };
   not_negative = λ y x. value_not_negative values s.not_negative (index_of p x y);
-  closed_v = record { back = λ set k place move j at e. closed Two set k place move j at e };
-  closed_w = record { back = λ set k place move j at e. closed One set k place move j at e };
+  closed_v = record { back = λ set k place move low j at e. closed Two set k place move low j at e };
+  closed_w = record { back = λ set k place move low j at e. closed One set k place move low j at e };
 }
 
 -- the two plans play the same pairs from either side
@@ -104,9 +106,10 @@ fair_after_one g p values of rules s old new at beside action seq near walk fair
     let w = p.seqs.two in
     let join = λ (i k : ℕ). are_connected p i k in
     let value = λ (x y : ℕ). value_of p values One x y in
-    let setting = setting_one p values rules s.rows s.closed in
+    let setting = setting_one p values rules s.rows of.closed in
     let choice : IsChoice v w join value old.one.actions.items old.one.beside.items new.one.beside.items old.two.beside.items new.two.beside.items (at, action) beside seq near = record {
       per_set = walk.one.per_set ∙ sym (of.sides One).per_set;
+      per_set_w = walk.two.per_set ∙ sym (of.sides Two).per_set;
       led = walk.one.led;
       none = before.1;
       ends = ends;
@@ -137,9 +140,10 @@ fair_after_two g p values of rules s old new at beside action seq near walk fair
     let w = p.seqs.one in
     let join = λ (k i : ℕ). are_connected p i k in
     let value = λ (x y : ℕ). value_of p values Two x y in
-    let setting = setting_two p values rules s.rows s.closed in
+    let setting = setting_two p values rules s.rows of.closed in
     let choice : IsChoice v w join value old.two.actions.items old.two.beside.items new.two.beside.items old.one.beside.items new.one.beside.items (at, action) beside seq near = record {
       per_set = walk.two.per_set ∙ sym (of.sides Two).per_set;
+      per_set_w = walk.one.per_set ∙ sym (of.sides One).per_set;
       led = walk.two.led;
       none = before.1;
       ends = ends;
@@ -210,11 +214,11 @@ pub goes_on : (g : GameView) (p : PairsView) (values : List ℤ) → IsPairsOf g
     → Waits (part_of side walk).beside.items set.0 t → IsLongest p (other side) set.0 t near → ((action end : ℕ) → Ends (side_of side p.seqs).places (set, action) end → value_of p values side end near ≤ℤ pos 0) → ⊥
 goes_on g p values of rules s walk w fair One set t near o longest stuck =
     let place = within p.seqs.one.places set.0 (omega (arith, slice_get_within walk.one.beside.items set.0 (Some t) o, w.one.per_set, (of.sides One).per_set)) in
-    some_move p.seqs.one p.seqs.two (λ i k. are_connected p i k) (λ x y. value_of p values One x y) walk.one.actions.items walk.one.beside.items walk.two.actions.items walk.two.beside.items (setting_one p values rules s.rows s.closed) fair.positive fair.one
+    some_move p.seqs.one p.seqs.two (λ i k. are_connected p i k) (λ x y. value_of p values One x y) walk.one.actions.items walk.one.beside.items walk.two.actions.items walk.two.beside.items (setting_one p values rules s.rows of.closed) fair.positive fair.one
     set t near place.0 place.1 (w.one.waiting set.0 t place.0 place.1 o).0 o longest.prefix (near_two p set.0 (last_of p.seqs.two near) longest.touched) stuck
 goes_on g p values of rules s walk w fair Two set t near o longest stuck =
     let place = within p.seqs.two.places set.0 (omega (arith, slice_get_within walk.two.beside.items set.0 (Some t) o, w.two.per_set, (of.sides Two).per_set)) in
-    some_move p.seqs.two p.seqs.one (λ k i. are_connected p i k) (λ y x. value_of p values Two y x) walk.two.actions.items walk.two.beside.items walk.one.actions.items walk.one.beside.items (setting_two p values rules s.rows s.closed)
+    some_move p.seqs.two p.seqs.one (λ k i. are_connected p i k) (λ y x. value_of p values Two y x) walk.two.actions.items walk.two.beside.items walk.one.actions.items walk.one.beside.items (setting_two p values rules s.rows of.closed)
     (positive_from_two p values walk.one.actions.items walk.two.actions.items fair.positive) fair.two
     set t near place.0 place.1 (w.two.waiting set.0 t place.0 place.1 o).0 o longest.prefix (near_one p set.0 (last_of p.seqs.one near) longest.touched) stuck
 

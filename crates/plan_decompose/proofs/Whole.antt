@@ -13,10 +13,10 @@ use Rattle.corr_game.specs.Plan.{IsPlan}
 use Rattle.sequences.specs.declared.places.Place.{Place}
 use Rattle.sequences.specs.Number.{SideView, IsSideOf, nothing, last_of, count_of, side_of}
 use Rattle.sequences.proofs.Adding.{within}
-use Rattle.connected_pairs.specs.Connected.{PairsView, IsPairs, IsPairsOf, are_connected, index_of, is_related, other, IsTouched}
+use Rattle.connected_pairs.specs.Connected.{PairsView, IsClosedBack, IsPairs, IsPairsOf, are_connected, index_of, is_related, other, IsTouched}
 use Rattle.plan_decompose.specs.Entry.{AreTakenOff, IsLeast, NonePlayed, PlayBoth}
 use Rattle.plan_decompose.specs.Reduced.{IsReduced}
-use Rattle.plan_decompose.specs.Solution.{ArePositive, IsClosedBack, IsSolution, MeetsRows, positives, value_at, value_of}
+use Rattle.plan_decompose.specs.Solution.{ArePositive, IsSolution, MeetsRows, positives, value_at, value_of}
 use Rattle.plan_decompose.proofs.Going.{near_one, near_two, setting_one, setting_two}
 use Rattle.plan_decompose.proofs.Rest.{Loses, index_is, rows_kept}
 use Rattle.plan_decompose.proofs.Turns.{at_most_total, positives_fall, positives_some, zero_or_more}
@@ -54,8 +54,8 @@ pub rows_left : (g : GameView) (p : PairsView) → IsPairsOf g p → IsPairs p �
     → length new ≡ length p.pairs → IsPlan One g one → IsPlan Two g two → IsReduced p.seqs.one one → IsReduced p.seqs.two two
     → ((k : ℕ) (pair : ℕ × ℕ) → slice_get p.pairs k ≡ Some pair → PlayBoth p.seqs one two pair → weight ≤ℤ slice_index_or old k (pos 0)) → MeetsRows p new
 rows_left g p of rules old new one two weight s off count plan_one plan_two reduced_one reduced_two least =
-    let first = setting_one p old rules s.rows s.closed in
-    let second = setting_two p old rules s.rows s.closed in
+    let first = setting_one p old rules s.rows of.closed in
+    let second = setting_two p old rules s.rows of.closed in
     let kept_one = rows_kept p.seqs.one p.seqs.two (λ i k. are_connected p i k) (λ x y. value_of p old One x y) (λ x y. value_of p new One x y) one two weight (rules.sides One) (rules.sides Two) first.closed_v first.rows_v
     (loses_one p rules old new one two weight off) reduced_one (named_in One g p.seqs.one one (of.sides One) plan_one) in
     let kept_two = rows_kept p.seqs.two p.seqs.one (λ k i. are_connected p i k) (λ y x. value_of p old Two y x) (λ y x. value_of p new Two y x) two one weight (rules.sides Two) (rules.sides One) second.closed_v second.rows_v

@@ -1,23 +1,18 @@
 -- Values that meet the correlation rows (von Stengel and Forges 2008), in a game without a triangle (Farina and Sandholm
 -- 2020), and what two plans that are picked by them play.
-pub use Rattle.connected_pairs.specs.CorrelationRows.{value_at, value_of, IsClosedBack, MeetsRows}
-use Rattle.std.specs.Prelude.{ℕ, ◌≡◌, ◌+◌, ◌<◌, ◌≤ℤ◌, ℤ, pos, negsuc, zero, suc, Bool, true, List, [], ◌∷◌, Option, Some, None, slice_get, slice_index_or}
-use Rattle.exact_algebra.specs.Sums.{sum_to}
+pub use Rattle.connected_pairs.specs.CorrelationRows.{value_at, value_of, MeetsRows}
+use Rattle.std.specs.Prelude.{ℕ, ◌≡◌, ◌+◌, ◌≤ℤ◌, ℤ, pos, negsuc, zero, suc, Bool, true, List, [], ◌∷◌, Option, Some}
 use Rattle.corr_game.specs.declared.nodes.SetId.{SetId}
-use Rattle.corr_game.specs.declared.sides.Side.{Side}
-use Rattle.corr_game.specs.declared.sides.Side.TheVariants.{One, Two}
-use Rattle.sequences.specs.declared.places.Place.{Place}
-use Rattle.sequences.specs.Number.{SideView, Plays, count_of, last_of, side_of}
-use Rattle.connected_pairs.specs.Connected.{PairsView, IsTouched, index_of, other, touches}
+use Rattle.corr_game.specs.declared.sides.Side.TheVariants.{One}
+use Rattle.sequences.specs.Number.{SideView, Plays, last_of}
+use Rattle.connected_pairs.specs.Connected.{PairsView}
 use Rattle.triangle_test.specs.Triangle.{IsTriangle}
 use Rattle.triangle_test.specs.declared.triangles.Quad.{Quad}
 
--- what a walk needs to go on: rows that are met, a positive total, connection that goes back along the own sequences, and
--- no triangle
+-- what a walk needs to go on: rows that are met, a positive total, and no triangle
 pub record IsSolution (p : PairsView) (values : List ℤ) : Type 0 where
   pub rows : MeetsRows p values
   pub total : pos 1 ≤ℤ value_of p values One 0 0
-  pub closed : (side : Side) → IsClosedBack p side
   pub no_triangle : (quad : Quad) → IsTriangle p quad → ⊥
 
 -- the relevant pairs of sequences that both plans play are positive

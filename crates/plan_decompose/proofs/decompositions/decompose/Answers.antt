@@ -41,8 +41,7 @@ loop-preserved c =
       left = omega (arith, before.left, fewer);
       solution = λ s. (let was = before.solution s in let rows = taken_rows was in record {
         rows = rows;
-        total = total_left p c.len-end.ensures.rules c.take_entry.new.values rows was.closed (same ∙ before.as_many) some;
-        closed = was.closed;
+        total = total_left p c.len-end.ensures.rules c.take_entry.new.values rows c.requires.whose.closed (same ∙ before.as_many) some;
         no_triangle = was.no_triangle;
       });
       shared = one_more_shared p c.loop.list entry c.loop.rest.items c.take_entry.new.values c.args.values before.shared (rw c.deref_mut.ensures.value at c.in_ok-entry.ensures.taken);
