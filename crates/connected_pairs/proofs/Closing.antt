@@ -12,7 +12,7 @@ use Rattle.corr_game.specs.Game.{GameView, IsGame}
 use Rattle.tree_recall.specs.Tree.{set_of, IsAbove}
 use Rattle.tree_recall.proofs.Kids.{above_joined, comparable, set_node}
 use Rattle.tree_recall.proofs.OwnSequences.{has_last, last_above}
-use Rattle.sequences.specs.Number.{SideView, IsSide, IsSideOf, Ends, HasNumber, last_of, side_of}
+use Rattle.sequences.specs.Number.{AreOwn, SideView, IsSide, IsSideOf, Ends, HasNumber, last_of, side_of}
 use Rattle.sequences.proofs.Holding.{set_in}
 use Rattle.connected_pairs.specs.Connected.{PairsView, IsPairs, IsPairsOf, IsClosedBack, TellsConnected, other, touches}
 use Rattle.connected_pairs.specs.Table.{AreSets, IsTable}
@@ -71,7 +71,7 @@ joined_back g rules side l m n a k e f h (inr above) = elim (comparable g rules 
 ]
 
 pub closed : (g : GameView) → IsGame g → (p : PairsView) → IsPairs p → ((side : Side) → IsSideOf side g (side_of side p.seqs)) → TellsConnected g p → (side : Side) → IsClosedBack p side
-unfolding IsClosedBack
+unfolding IsClosedBack AreOwn
 closed g rules p pairs of tells side set k place move room t at e =
     let v = side_of side p.seqs in
     let h = joined_from g p tells side set k (slice_get_within v.places set place at) room t in

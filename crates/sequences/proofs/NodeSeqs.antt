@@ -80,6 +80,7 @@ number_moved side g rules places lasts n set kids old new place p d low h read e
 
 -- behind the last node each has its number
 pub numbers_all : (side : Side) (g : GameView) → IsGame g → (places : List Place) (n : ℕ) (seqs : List ℕ) → IsDown (Numbers side g places) 0 g n seqs → length seqs ≡ length g.nodes → length g.nodes ≤ n → AreAtNodes side g places seqs
+unfolding AreAtNodes
 numbers_all side g rules places n seqs d room end m seq last e h =
     let in_list : m < length g.nodes = omega (arith, slice_get_within seqs m seq e) in
     let there = down_at (Numbers side g places) 0 g rules n m seqs d (omega arith) in_list last h in
@@ -89,6 +90,7 @@ numbers_all side g rules places n seqs d room end m seq last e h =
 -- and it is one of the player's
 pub numbers_low : (side : Side) (g : GameView) → IsGame g → (places : List Place) (lasts : List (SetId × ℕ)) (seqs : List ℕ) → IsNumberingOf (sets_of side g) places lasts → AreAtNodes side g places seqs → length seqs ≡ length g.nodes
     → All (λ seq. seq ≤ length lasts) seqs
+unfolding AreAtNodes
 numbers_low side g rules places lasts seqs p at room k d low =
     let last = has_last g rules side k (omega arith) in
     own_low places lasts last.0 (get_or seqs k d) p.numbered (at k (get_or seqs k d) last.0 (slice_get-get_or seqs k d low) last.1)

@@ -35,4 +35,5 @@ recall_more moves places set place last r count read own = record {
 }
 
 pub own_of_tree : (side : Side) (g : GameView) (moves : List (Option (SetId × ℕ))) (places : List Place) → AreOfTree side g moves → AreRecalled moves places → AreOwn side g places
+unfolding AreOwn AreOfTree
 own_of_tree side g moves places of r n set place last e h at = r.each set place last h ((of n set last e).1 at)

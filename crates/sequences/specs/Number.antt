@@ -83,11 +83,11 @@ pub record IsSide (v : SideView) : Type 0 where
   pub each_node : (n seq : ℕ) → slice_get v.nodes n ≡ Some seq → seq ≤ length v.lasts
 
 -- at each node the number of the sequence with the last own move there
-abbrev pub AreAtNodes : Side → GameView → List Place → List ℕ → Type 0
+unfoldable pub AreAtNodes : Side → GameView → List Place → List ℕ → Type 0
 AreAtNodes side g places nodes = (n seq : ℕ) (last : Option (SetId × ℕ)) → slice_get nodes n ≡ Some seq → IsLastAt g side n last → HasNumber places last seq
 
 -- a set's own sequence is the one with the last own move at each of its nodes
-abbrev pub AreOwn : Side → GameView → List Place → Type 0
+unfoldable pub AreOwn : Side → GameView → List Place → Type 0
 AreOwn side g places = (n set : ℕ) (place : Place) (last : Option (SetId × ℕ)) → set_of g side n ≡ Some set → slice_get places set ≡ Some place → IsLastAt g side n last → HasNumber places last place.own
 
 -- one place per set, with as many actions, and one sequence per node; each is that of the last own move in the tree

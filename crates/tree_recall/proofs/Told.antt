@@ -42,6 +42,7 @@ told_first side g above e = record {
 
 -- behind the last node every set's move is that of the tree
 pub told_all : (side : Side) (g : GameView) → IsGame g → (n : ℕ) (above moves : List (Option Move)) → IsTold side g n above moves → length g.nodes ≤ n → AreOfTree side g moves
+unfolding AreOfTree
 told_all side g rules n above moves t end m set last e =
     let room = (set_node g side m set e).0 in
     let known = t.sets m set (omega arith) e in (
@@ -53,6 +54,7 @@ told_all side g rules n above moves t end m set last e =
 -- sequences of nodes of one set again.
 recall_from : (side : Side) (g : GameView) → IsGame g → (moves : List (Option Move)) → AreOfTree side g moves → (left m n set : ℕ) (a b : List Move) → m < left → set_of g side m ≡ Some set → set_of g side n ≡ Some set
     → IsOwnAt g side m a → IsOwnAt g side n b → a ≡ b
+unfolding AreOfTree
 recall_from side g rules moves of zero m n set a b bound e f h k = absurd (omega arith)
 recall_from side g rules moves of (suc left) m n set [] [] bound e f h k = refl
 recall_from side g rules moves of (suc left) m n set [] (y ∷ b) bound e f h k =
@@ -74,4 +76,5 @@ recall_from side g rules moves of (suc left) m n set (x ∷ a) (y ∷ b) bound e
     cc (move, rest)
 
 pub recall_all : (side : Side) (g : GameView) → IsGame g → (moves : List (Option Move)) → AreOfTree side g moves → HasRecall g side
+unfolding HasRecall
 recall_all side g rules moves of m n set a b e f h k = recall_from side g rules moves of (m + 1) m n set a b (omega arith) e f h k

@@ -34,7 +34,7 @@ IsHandedOn kids given count n old new =
     ⊎ (((action : ℕ) → action < count → slice_index kids action ≡ n → ⊥) × (new ≡ old))
 
 -- these are the last own moves at the nodes of each set, whichever of the set's nodes is looked at
-abbrev pub AreOfTree : Side → GameView → List (Option (SetId × ℕ)) → Type 0
+unfoldable pub AreOfTree : Side → GameView → List (Option (SetId × ℕ)) → Type 0
 AreOfTree side g moves = (n set : ℕ) (last : Option (SetId × ℕ)) → set_of g side n ≡ Some set → (slice_get moves set ≡ Some last) ↔ IsLastAt g side n last
 
 -- one last move per set of each player, each at a set before; it is the last own move at each of the set's nodes, and

@@ -22,5 +22,5 @@ abbrev pub IsLastAt : GameView → Side → ℕ → Option (SetId × ℕ) → Ty
 IsLastAt g side n last = (seq : List (SetId × ℕ)) × IsOwnAt g side n seq × (latest seq ≡ last)
 
 -- perfect recall of a player: all nodes of a set have the same own sequence
-abbrev pub HasRecall : GameView → Side → Type 0
+unfoldable pub HasRecall : GameView → Side → Type 0
 HasRecall g side = (m n set : ℕ) (a b : List (SetId × ℕ)) → set_of g side m ≡ Some set → set_of g side n ≡ Some set → IsOwnAt g side m a → IsOwnAt g side n b → a ≡ b
