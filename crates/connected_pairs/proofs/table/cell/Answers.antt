@@ -9,13 +9,17 @@ few a b width low small wide =
     omega (arith, mul-le-mul_left width most)
 
 pub overflow_mul-result : goal.overflow_mul-result
-overflow_mul-result c = omega (arith, few c.args.own.1.0 0 c.args.width (omega arith) (omega arith) c.requires)
+overflow_mul-result c =
+    omega (arith, few c.args.own.1.0 c.args.set.0 c.args.width (omega arith) (omega arith) c.requires, few c.args.set.0 c.args.own.1.0 c.args.width (omega arith) (omega arith) c.requires)
 
 pub overflow_add-result : goal.overflow_add-result
-overflow_add-result c = omega (arith, few c.args.own.1.0 c.args.set.0 c.args.width (omega arith) (omega arith) c.requires)
+overflow_add-result c =
+    omega (arith, few c.args.own.1.0 c.args.set.0 c.args.width (omega arith) (omega arith) c.requires, few c.args.set.0 c.args.own.1.0 c.args.width (omega arith) (omega arith) c.requires)
 
 pub overflow_mul-result-in-Two : goal.overflow_mul-result-in-Two
-overflow_mul-result-in-Two c = omega (arith, few c.args.set.0 0 c.args.width (omega arith) (omega arith) c.requires)
+overflow_mul-result-in-Two c =
+    omega (arith, few c.args.own.1.0 c.args.set.0 c.args.width (omega arith) (omega arith) c.requires, few c.args.set.0 c.args.own.1.0 c.args.width (omega arith) (omega arith) c.requires)
 
 pub overflow_add-result-in-Two : goal.overflow_add-result-in-Two
-overflow_add-result-in-Two c = omega (arith, few c.args.set.0 c.args.own.1.0 c.args.width (omega arith) (omega arith) c.requires)
+overflow_add-result-in-Two c =
+    omega (arith, few c.args.own.1.0 c.args.set.0 c.args.width (omega arith) (omega arith) c.requires, few c.args.set.0 c.args.own.1.0 c.args.width (omega arith) (omega arith) c.requires)
