@@ -1,3 +1,4 @@
+pub mod Firsts
 pub mod HandedDown
 pub mod Kids
 pub mod Order

@@ -50,31 +50,45 @@ told_all side g rules n above moves t end m set last e =
       λ at. known.1 ∙ ap Some (last_same g rules side m known.0 last known.2 at),
     )
 
--- Sets whose nodes have one last move have one own sequence: before the last moves, made at nodes above, stand own
--- sequences of nodes of one set again.
-recall_from : (side : Side) (g : GameView) → IsGame g → (moves : List (Option Move)) → AreOfTree side g moves → (left m n set : ℕ) (a b : List Move) → m < left → set_of g side m ≡ Some set → set_of g side n ≡ Some set
-    → IsOwnAt g side m a → IsOwnAt g side n b → a ≡ b
-unfolding AreOfTree
-recall_from side g rules moves of zero m n set a b bound e f h k = absurd (omega arith)
-recall_from side g rules moves of (suc left) m n set [] [] bound e f h k = refl
-recall_from side g rules moves of (suc left) m n set [] (y ∷ b) bound e f h k =
-    let one = (of m set None e).1 ([], h, refl) in
-    let two = (of n set (Some y) f).1 (y ∷ b, k, refl) in
+-- the nodes before n of a set have one last move
+pub record AreAlike (side : Side) (g : GameView) (n : ℕ) : Type 0 where
+  pub same : (m k set : ℕ) (x y : Option Move) → m < n → k < n → set_of g side m ≡ Some set → set_of g side k ≡ Some set → IsLastAt g side m x → IsLastAt g side k y → x ≡ y
+
+pub alike : (side : Side) (g : GameView) → IsGame g → (n : ℕ) (above moves : List (Option Move)) → IsTold side g n above moves → AreAlike side g n
+alike side g rules n above moves t = record {
+  same = λ m k set x y low left e f h j.
+      let one = t.sets m set low e in
+      let two = t.sets k set left f in
+      let kept : one.0 ≡ two.0 = cc (one.1, two.1) in
+      last_same g rules side m x one.0 h one.2 ∙ (kept ∙ last_same g rules side k two.0 y two.2 j);
+}
+
+-- So they have one own sequence: before the last moves, made at nodes above, stand own sequences of nodes of one set.
+recall_from : (side : Side) (g : GameView) → IsGame g → (n : ℕ) → AreAlike side g n → (left m k set : ℕ) (a b : List Move) → m < left → m < n → k < n → set_of g side m ≡ Some set → set_of g side k ≡ Some set
+    → IsOwnAt g side m a → IsOwnAt g side k b → a ≡ b
+recall_from side g rules n like zero m k set a b bound low less e f h j = absurd (omega arith)
+recall_from side g rules n like (suc left) m k set [] [] bound low less e f h j = refl
+recall_from side g rules n like (suc left) m k set [] (y ∷ b) bound low less e f h j =
+    let move : None ≡ Some y = like.same m k set None (Some y) low less e f ([], h, refl) (y ∷ b, j, refl) in
     absurd (cc)
-recall_from side g rules moves of (suc left) m n set (x ∷ a) [] bound e f h k =
-    let one = (of m set (Some x) e).1 (x ∷ a, h, refl) in
-    let two = (of n set None f).1 ([], k, refl) in
+recall_from side g rules n like (suc left) m k set (x ∷ a) [] bound low less e f h j =
+    let move : Some x ≡ None = like.same m k set (Some x) None low less e f (x ∷ a, h, refl) ([], j, refl) in
     absurd (cc)
-recall_from side g rules moves of (suc left) m n set (x ∷ a) (y ∷ b) bound e f h k =
-    let one = (of m set (Some x) e).1 (x ∷ a, h, refl) in
-    let two = (of n set (Some y) f).1 (y ∷ b, k, refl) in
-    let move : x ≡ y = cc (one, two) in
+recall_from side g rules n like (suc left) m k set (x ∷ a) (y ∷ b) bound low less e f h j =
+    let last = like.same m k set (Some x) (Some y) low less e f (x ∷ a, h, refl) (y ∷ b, j, refl) in
+    let move : x ≡ y = cc in
     let over = made_above g side m (x ∷ a) h x a refl in
-    let other = made_above g side n (y ∷ b) k y b refl in
-    let low = above_within g rules over.0 m over.1 in
-    let rest = recall_from side g rules moves of left over.0 other.0 x.0.0 a b (omega (arith, low.0)) over.2 (rw move other.2) over.3 other.3 in
+    let other = made_above g side k (y ∷ b) j y b refl in
+    let one = above_within g rules over.0 m over.1 in
+    let two = above_within g rules other.0 k other.1 in
+    let rest = recall_from side g rules n like left over.0 other.0 x.0.0 a b (omega (arith, one.0)) (omega (arith, one.0)) (omega (arith, two.0)) over.2 (rw move other.2) over.3 other.3 in
     cc (move, rest)
 
-pub recall_all : (side : Side) (g : GameView) → IsGame g → (moves : List (Option Move)) → AreOfTree side g moves → HasRecall g side
+pub recall_before : (side : Side) (g : GameView) → IsGame g → (n : ℕ) → AreAlike side g n → (m k set : ℕ) (a b : List Move) → m < n → k < n → set_of g side m ≡ Some set → set_of g side k ≡ Some set
+    → IsOwnAt g side m a → IsOwnAt g side k b → a ≡ b
+recall_before side g rules n like m k set a b low less e f h j = recall_from side g rules n like (m + 1) m k set a b (omega arith) low less e f h j
+
+pub recall_all : (side : Side) (g : GameView) → IsGame g → (n : ℕ) → AreAlike side g n → length g.nodes ≤ n → HasRecall g side
 unfolding HasRecall
-recall_all side g rules moves of m n set a b e f h k = recall_from side g rules moves of (m + 1) m n set a b (omega arith) e f h k
+recall_all side g rules n like end m k set a b e f h j =
+    recall_before side g rules n like m k set a b (omega (arith, (set_node g side m set e).0)) (omega (arith, (set_node g side k set f).0)) e f h j

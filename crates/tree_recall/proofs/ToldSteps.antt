@@ -20,7 +20,7 @@ use Rattle.tree_recall.proofs.Told.{IsTold, Move, sets_next}
 use Rattle.tree_recall.proofs.HandedDown.{down_here, down_next}
 
 -- an entry read is the last own move at node n
-read_here : (side : Side) (g : GameView) → IsGame g → (n : ℕ) (above moves : List (Option Move)) (last : Option Move) → IsTold side g n above moves → n < length g.nodes → length above ≡ length g.nodes
+pub read_here : (side : Side) (g : GameView) → IsGame g → (n : ℕ) (above moves : List (Option Move)) (last : Option Move) → IsTold side g n above moves → n < length g.nodes → length above ≡ length g.nodes
     → last ≡ get_or above n last → IsLastAt g side n last
 read_here side g rules n above moves last t low room read =
     let P : Option Move → Type 0 = IsLastAt g side n in
@@ -46,7 +46,7 @@ pushed : {X : Type 0} (xs : List X) (y : X) → slice_get (xs ++ y ∷ []) (leng
 pushed [] y = refl
 pushed (z ∷ zs) y = pushed zs y
 
-last_at : (met : List Met) (k : ℕ) (m : Met) → slice_get met k ≡ Some m → slice_get (map last_of met) k ≡ Some m.last
+pub last_at : (met : List Met) (k : ℕ) (m : Met) → slice_get met k ≡ Some m → slice_get (map last_of met) k ≡ Some m.last
 last_at [] k m h = absurd (cc)
 last_at (x ∷ xs) zero m h = let same : x ≡ m = cc in ap (λ (y : Met). Some y.last) same
 last_at (x ∷ xs) (suc k) m h = last_at xs k m h

@@ -2,7 +2,8 @@ ghost use Rattle.std.specs.Prelude.{◌≡◌, ◌<◌, ◌≤◌, ◌++◌, ◌
 ghost use Rattle.corr_game.specs.declared.nodes.SetId.{SetId};
 ghost use Rattle.corr_game.specs.Game.{GameView, sets_of};
 ghost use Rattle.tree_recall.specs.declared.recalls.Met.{Met};
-ghost use Rattle.tree_recall.specs.Forgetting.{NamesSet};
+ghost use Rattle.tree_recall.specs.Forgetting.{NamesSet, IsLeast, IsLeastOf, IsMismatch, NoneForgotten};
+ghost use Rattle.corr_game.specs.declared.sides.Side.TheVariants.{One, Two};
 ghost use Rattle.tree_recall.specs.OwnSequence.{HasRecall};
 ghost use Rattle.tree_recall.specs.LastMove.{IsRecallOf, AreEarlier, AreOfTree, IsHandedOn, moves_of};
 
@@ -95,6 +96,7 @@ impl Recalled {
 pub fn recall(alloc: Global, game: &Game) -> Result<Recalled, RecallRefusal>
     ensures recalled { IfOk result (λ recalled. IsRecallOf game.now recalled) }
     ensures named { IfErr result (NamesSet game.now) }
+    ensures least { IfErr result (IsLeast game.now) }
 {
     let one = side_recall(alloc, game, Side::One);
     let two = side_recall(alloc, game, Side::Two);
@@ -105,16 +107,18 @@ pub fn recall(alloc: Global, game: &Game) -> Result<Recalled, RecallRefusal>
     }
 }
 
-/// Of two refusals the one whose second node comes first.
+/// Of two refusals the one whose second node comes first; none is told where memory ran out.
 fn earlier(one: RecallRefusal, two: RecallRefusal) -> RecallRefusal
-    ensures { (g : GameView) → NamesSet g one → NamesSet g two → NamesSet g result }
+    ensures named { (g : GameView) → NamesSet g one → NamesSet g two → NamesSet g result }
+    ensures least { (g : GameView) → IsLeastOf One g one → IsLeastOf Two g two → IsLeast g result }
 {
-    match (&one, &two) {
-        (RecallRefusal::Forgets { second: a, .. }, RecallRefusal::Forgets { second: b, .. })
-            if *b < *a => two,
-        (RecallRefusal::NoMemory, _) => one,
-        _ => one,
-    }
+    let RecallRefusal::Forgets { second: a, .. } = &one else {
+        return one;
+    };
+    let RecallRefusal::Forgets { second: b, .. } = &two else {
+        return two;
+    };
+    if *b < *a { two } else { one }
 }
 
 fn side_recall(alloc: Global, game: &Game, side: Side) -> Result<Vec<Met>, RecallRefusal>
@@ -124,6 +128,8 @@ fn side_recall(alloc: Global, game: &Game, side: Side) -> Result<Vec<Met>, Recal
     ensures of_tree { IfOk result (λ met. AreOfTree side game.now (map (λ m. m.last) met.items)) }
     ensures perfect { IfOk result (λ _. HasRecall game.now side) }
     ensures named { IfErr result (NamesSet game.now) }
+    ensures least { IfErr result (IsLeastOf side game.now) }
+    ensures none { IfOk result (λ _. (n : ℕ) → NoneForgotten game.now side n) }
 {
     let mut above: Vec<Option<Move>> = vec![in alloc; None; game.len() as usize]?;
     let mut met = Vec::new(alloc);
@@ -166,6 +172,7 @@ fn meet(met: &mut Vec<Met>, side: Side, set: SetId, node: Met) -> Result<(), Rec
     ensures alike { IfOk result
         (λ _. (known : Met) → slice_get met.old.items set.0 ≡ Some known → known.last ≡ node.last) }
     ensures named { IfErr result (λ refusal. (g : GameView) → set.0 < length (sets_of side g) → NamesSet g refusal) }
+    ensures differs { IfErr result (IsMismatch side set met.old.items node) }
 {
     let Some(known) = met.get(set.0 as usize) else {
         met.push(node)?;

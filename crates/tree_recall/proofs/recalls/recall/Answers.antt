@@ -24,4 +24,8 @@ returns-in-Ok-Ok-clause-recalled c =
 
 pub returns-in-Err-Err-clause-named : goal.returns-in-Err-Err-clause-named
 returns-in-Err-Err-clause-named c =
-    c.earlier.ensures c.args.game.now (rw c.in-Err-Err.is-0 at c.side_recall-one.ensures.named) (rw c.in-Err-Err.is-1 at c.side_recall-two.ensures.named)
+    c.earlier.ensures.named c.args.game.now (rw c.in-Err-Err.is-0 at c.side_recall-one.ensures.named) (rw c.in-Err-Err.is-1 at c.side_recall-two.ensures.named)
+
+pub returns-in-Err-Err-clause-least : goal.returns-in-Err-Err-clause-least
+returns-in-Err-Err-clause-least c =
+    c.earlier.ensures.least c.args.game.now (rw c.in-Err-Err.is-0 at c.side_recall-one.ensures.least) (rw c.in-Err-Err.is-1 at c.side_recall-two.ensures.least)
