@@ -1,6 +1,6 @@
 -- A linear program with two payoff rows: to find numbers of 0 or more, one a column, whose product with each row is
 -- that row's right side.
-use Rattle.std.specs.Prelude.{◌≡◌, ℕ, ◌^◌, ◌≤◌, List, [], ◌++◌, length, All, ℤ, pos, ◌≤ℤ◌, slice_index_or, replicate}
+use Rattle.std.specs.Prelude.{◌≡◌, ℕ, ◌^◌, ◌<◌, ◌≤◌, List, [], ◌++◌, length, All, ℤ, pos, ◌≤ℤ◌, slice_index_or, replicate}
 use Rattle.corr_game.specs.declared.sides.Side.{Side}
 use Rattle.corr_game.specs.declared.sides.Side.TheVariants.{One, Two}
 use Rattle.lp_form.specs.declared.entries.Entry.{Entry}
@@ -44,6 +44,12 @@ pub record IsLp (lp : LpView) : Type 0 where
   pub each_row : All (IsRow lp.cols) lp.rows
   pub first_row : IsRow lp.cols lp.first
   pub second_row : IsRow lp.cols lp.second
+
+-- a program whose right sides are 1 in the first row and 0 in the others
+pub record IsProgram (lp : LpView) : Type 0 where
+  pub a_row : 0 < length lp.rows
+  pub one : right_of lp 0 ≡ pos 1
+  pub zeros : (row : ℕ) → 0 < row → right_of lp row ≡ pos 0
 
 -- the rows of one program and then those of another, over the columns of that and with the payoff rows of this
 abbrev pub joined : LpView → LpView → LpView

@@ -9,6 +9,10 @@ pub record IsSolution (lp : LpView) (total : ℤ) (x : ℕ → ℤ) : Type 0 whe
   pub not_negative : (col : ℕ) → col < lp.cols → pos 0 ≤ℤ x col
   pub meets : (row : ℕ) → row < length lp.rows → sum_to lp.cols (λ col. coefficient lp row col *ℤ x col) ≡ total *ℤ right_of lp row
 
+-- the program has a solution, over some total above 0
+abbrev pub HasSolution : LpView → Type 0
+HasSolution lp = (total : ℤ) × (x : ℕ → ℤ) × (pos 0 <ℤ total) × IsSolution lp total x
+
 -- what a player gets from such numbers, times their total
 abbrev pub paid : LpView → Side → (ℕ → ℤ) → ℤ
 paid lp side x = sum_to lp.cols (λ col. payoff_of side lp col *ℤ x col)

@@ -1,5 +1,6 @@
 ghost use Rattle.std.specs.Prelude.{◌≡◌, ◌≢◌, ◌⊎◌, ℕ, ◌+◌, ◌^◌, ◌<◌, ◌≤◌, List, [], length, pos, ◌≤ℤ◌, slice_set, replicate, OnErr, OnOk, IfOk};
 ghost use Rattle.lp_form.specs.Program.{IsLp, LpView, coefficient, right_of, payoff_of, payoff_row, with_payoff_row, entries_of, blank, joined};
+ghost use Rattle.lp_form.specs.Small.{IsSmall};
 ghost use Rattle.lp_form.specs.Solutions.{HasBoundedPayoffs, PaysAlike, SolvesToo};
 ghost use Rattle.lp_form.specs.declared.entries.Entry.{Entry};
 ghost use Rattle.corr_game.specs.declared.sides.Side.{Side};
@@ -173,6 +174,7 @@ impl Lp {
         ensures solutions { IfOk result (λ lp. SolvesToo lp base) }
         ensures payoffs { IfOk result (λ lp. PaysAlike lp base) }
         ensures bounded { HasBoundedPayoffs base → IfOk result (λ lp. HasBoundedPayoffs lp) }
+        ensures small { IsSmall base → IsSmall more → IfOk result (λ lp. IsSmall lp) }
     {
         let Lp {
             cols: _,
