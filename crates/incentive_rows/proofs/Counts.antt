@@ -10,10 +10,11 @@ use Rattle.corr_game.specs.declared.sides.Side.{Side}
 use Rattle.corr_game.specs.declared.sides.Side.TheVariants.{One, Two}
 use Rattle.corr_game.specs.Game.{GameView, IsGame, sets_of}
 use Rattle.corr_game.proofs.SetCount.{count_at_most}
-use Rattle.connected_pairs.specs.Connected.{PairsView}
+use Rattle.sequences.specs.Number.{count_of, side_of}
+use Rattle.connected_pairs.specs.Connected.{PairsView, other}
 use Rattle.incentive_rows.specs.Sum.{IsSum}
 use Rattle.incentive_rows.specs.Trigger.{TriggersAt}
-use Rattle.incentive_rows.specs.Size.{CountsFor, HasCount, HasCountAt, HasTotalAt, HasTotal, HasIncentives, HasSize, row_each, value_each}
+use Rattle.incentive_rows.specs.Size.{CountsFor, HasCorrelationRows, HasCount, HasCountAt, HasIncentives, HasRowBeside, HasRowsOfSet, HasSize, HasTotal, HasTotalAt, row_each, value_each}
 use Rattle.incentive_rows.proofs.Sums.{HasOne, sum_bound, sum_one, where_bound, where_one}
 
 pub few_sets : (side : Side) (g : GameView) → IsGame g → length (sets_of side g) ≤ 4096
@@ -85,3 +86,14 @@ incentives_fit notion g p size r v h =
     let whole = size.2 in
     let same = incentives_one notion g p r v whole.incentives whole.values h whole.behind in
     (omega (arith, size.3, whole.all_rows, same.0), omega (arith, size.4, whole.all_columns, same.0, same.1))
+
+-- a player's correlation rows have one count
+pub correlation_one : (g : GameView) (p : PairsView) (side : Side) (a b : ℕ) → HasCorrelationRows g p side a → HasCorrelationRows g p side b → a ≡ b
+correlation_one g p side a b s t =
+    sum_one (HasRowsOfSet p side) of_set (length (sets_of side g)) a b s t
+  where
+    beside : (set : ℕ) → HasOne (HasRowBeside p side set)
+    beside set = record { same = λ k m n s t. where_one 1 m n s t; }
+
+    of_set : HasOne (HasRowsOfSet p side)
+    of_set = record { same = λ set m n s t. sum_one (HasRowBeside p side set) (beside set) (count_of (side_of (other side) p.seqs)) m n s t; }

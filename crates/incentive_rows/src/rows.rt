@@ -3,6 +3,7 @@ ghost use Rattle.corr_game.specs.declared.sides.Side.{Side};
 ghost use Rattle.corr_game.specs.declared.sides.Side.TheVariants.{One, Two};
 ghost use Rattle.corr_game.specs.Game.{sets_of};
 ghost use Rattle.lp_form.specs.Program.{payoff_of, right_of};
+ghost use Rattle.lp_form.specs.Small.{IsSmall};
 ghost use Rattle.connected_pairs.specs.Connected.{IsPairs, IsPairsOf};
 ghost use Rattle.incentive_rows.specs.Bounds.{IsWithin};
 ghost use Rattle.incentive_rows.specs.Part.{AddsTo, AreIncentives, HasRoom};
@@ -44,6 +45,7 @@ pub fn incentives(alloc: Global, game: &Game, pairs: &Pairs, notion: Notion) -> 
     ensures rights { IfOk result (λ lp. (r : ℕ) → right_of lp r ≡ pos 0) }
     ensures payoffs { IfOk result (λ lp. (side : Side) (k : ℕ) → payoff_of side lp k ≡ pos 0) }
     ensures bounded { IfOk result (λ lp. IsWithin (2 ^ 42) lp) }
+    ensures small { IfOk result (λ lp. IsSmall lp) }
 {
     let size = incentive_size(game, pairs, notion);
     let floor = pairs.len() + size.values as u32;

@@ -7,4 +7,5 @@ pub mod Growing
 pub mod Meeting
 pub mod NoneAbove
 pub mod Ordering
+pub mod Smallness
 pub mod Units

@@ -2,11 +2,13 @@ ghost use Rattle.std.specs.Prelude.{◌≡◌, ◌≢◌, ◌<◌, ◌≤◌, �
 ghost use Rattle.corr_game.specs.Game.{sets_of};
 ghost use Rattle.sequences.specs.Number.{count_of, side_of};
 ghost use Rattle.lp_form.specs.Program.{coefficient, right_of};
+ghost use Rattle.lp_form.specs.Small.{IsSmall};
 ghost use Rattle.lp_form.specs.Solutions.{HasBoundedPayoffs};
 ghost use Rattle.connected_pairs.specs.Connected.{IsPairs, IsPairsOf, other};
 ghost use Rattle.plan_polytope.specs.Bounds.{AreUnits, IsWithin};
 ghost use Rattle.plan_polytope.specs.CorrelationRow.{AreFilled, IsCorrelationRow, IsRowOf, IsTotalRow, column_of};
 ghost use Rattle.plan_polytope.specs.Placing.{Puts};
+ghost use Rattle.plan_polytope.specs.RowCount.{HasBothCounts};
 ghost use Rattle.plan_polytope.specs.Rows.{AreCorrelationRows};
 ghost use Rattle.plan_polytope.specs.Solutions.{SolutionsMeetRows};
 
@@ -24,11 +26,13 @@ pub fn polytope(alloc: Global, game: &Game, pairs: &Pairs) -> Result<Lp, NoMemor
     ensures columns { IfOk result (λ lp. lp.cols ≡ length pairs.now.pairs) }
     ensures few_rows { IfOk result (λ lp. length lp.rows + 4095 ≤ 2 ^ 24) }
     ensures a_row { IfOk result (λ lp. 0 < length lp.rows) }
+    ensures rows { IfOk result (λ lp. (count : ℕ) → HasBothCounts game.now pairs.now count → length lp.rows ≡ count + 1) }
     ensures correlation { IfOk result (λ lp. AreCorrelationRows game.now pairs.now lp) }
     ensures total { IfOk result (λ lp. right_of lp 0 ≡ pos 1) }
     ensures other_rights { IfOk result (λ lp. (r : ℕ) → right_of lp (r + 1) ≡ pos 0) }
     ensures amounts { IfOk result (λ lp. IsWithin (2 ^ 40) lp) }
     ensures units { IfOk result (λ lp. AreUnits lp) }
+    ensures small { IfOk result (λ lp. IsSmall lp) }
     ensures meets { IfOk result (λ lp. SolutionsMeetRows pairs.now lp) }
     ensures bounded { IfOk result (λ lp. HasBoundedPayoffs lp) }
 {

@@ -1,14 +1,17 @@
 -- The pairs of few sequences are few. A new program has 0 everywhere, so it has behind its first row. The payoff rows leave the
 -- other rows as they are. What solves correlation rows meets them, and is bounded.
-use Rattle.std.proofs.Common.{◌≡◌, ℕ, ◌+◌, ◌∙◌, List, length, pos, subst, ap, inl, arith, rules}
+use Rattle.std.proofs.Common.{◌≡◌, ℕ, ◌+◌, ◌^◌, ◌∙◌, List, length, pos, subst, ap, inl, arith, rules}
 use Rattle.std.proofs.lemmas.Grind.{common_steps}
 use Rattle.lp_form.specs.declared.entries.Entry.{Entry}
 use Rattle.lp_form.specs.Program.{LpView, right_of}
 use Rattle.plan_polytope.specs.declared.rows.Row.{Row}
+use Rattle.plan_polytope.specs.Bounds.{AreUnits, IsWithin}
 use Rattle.plan_polytope.specs.CorrelationRow.{AreFilled}
+use Rattle.plan_polytope.proofs.Counting.{both_counts_one}
 use Rattle.plan_polytope.proofs.FewSets.{few_columns}
 use Rattle.plan_polytope.proofs.Filling.{blank_0, blank_count, filled_still, right_apart, rows_still, total_put}
 use Rattle.plan_polytope.proofs.Meeting.{polytope_bounded, solutions_meet}
+use Rattle.plan_polytope.proofs.Smallness.{units_small}
 use Rattle.plan_polytope.proofs.polytopes.polytope.Goals as goal
 
 pub new-requires-clause-few_columns : goal.new-requires-clause-few_columns
@@ -45,6 +48,11 @@ returns-clause-correlation c =
       filled = filled_still p c.in_ok-rows.rows.items c.fill_rows.new.lp c.add_payoffs.new.lp kept (subst Filled c.deref.ensures.value c.in_ok-fill_rows.ensures.filled);
     }
 
+pub returns-clause-rows : goal.returns-clause-rows
+returns-clause-rows c = λ count counted.
+    let are = returns-clause-correlation c in
+    omega (arith, are.count, both_counts_one c.args.game.now c.args.pairs.now (length are.rows) count are.both_players counted)
+
 pub returns-clause-meets : goal.returns-clause-meets
 returns-clause-meets c =
     let lp = c.add_payoffs.new.lp in
@@ -62,3 +70,12 @@ returns-clause-bounded c =
     let zeros : (r : ℕ) → right_of lp (r + 1) ≡ pos 0 = grind (arith, common_steps) in
     polytope_bounded c.args.game.now c.args.pairs.now lp
     (record { rules = c.len-columns.ensures.rules; whose = c.requires; columns = columns; rows = returns-clause-correlation c; one = one; zeros = zeros })
+
+pub returns-clause-small : goal.returns-clause-small
+returns-clause-small c =
+    let lp = c.add_payoffs.new.lp in
+    let units : AreUnits lp = search rules in
+    let amounts : IsWithin (2 ^ 40) lp = search rules in
+    let one : right_of lp 0 ≡ pos 1 = grind (arith, common_steps) in
+    let zeros : (r : ℕ) → right_of lp (r + 1) ≡ pos 0 = grind (arith, common_steps) in
+    units_small lp units amounts one zeros
