@@ -1,5 +1,6 @@
 pub mod Eliminating
 pub mod ExactEntries
+pub mod Narrowness
 pub mod OneBasis
 pub mod PartialSums
 pub mod Pivoting

@@ -69,6 +69,10 @@ chosen_row s row col chosen others p =
           rw (p.turned_is k inside) (turned_narrow (at (row_of s row) col) (at (row_of s row) k) (All-get_or Narrow (row_of s row) k (pos 0) inside old.narrow)));
     }
 
+-- a row is as wide as it is
+pub own_width : {cols : ℕ} {row : List ℤ} → IsRow cols row → IsRow (length row) row
+own_width r = record { width = refl; narrow = r.narrow }
+
 pub pivot_positive : (s : Stored) (row col : ℕ) (chosen : List ℤ) (others : List (List ℤ)) → Parts s row col chosen others → pos 0 <ℤ at chosen col
 pivot_positive s row col chosen others p =
     let old = is_row s row p.rules p.fresh (omega (arith, p.program_row)) in

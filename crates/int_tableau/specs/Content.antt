@@ -1,5 +1,5 @@
 -- The rules of an integer tableau (Edmonds 1967, Bareiss 1968), and the names of its rows.
-pub use Rattle.int_tableau.specs.Shape.{Content, IsProgramRow, IsColumn}
+pub use Rattle.int_tableau.specs.Shape.{Content, IsProgramRow, IsColumn, right_side}
 use Rattle.std.specs.Prelude.{◌≡◌, ℕ, ◌+◌, ◌^◌, ◌<◌, ◌≤◌, false, pos, ◌<ℤ◌}
 use Rattle.lp_form.specs.declared.places.RowName.{RowName}
 use Rattle.lp_form.specs.declared.places.RowName.TheVariants.{Basic, First, Second, Phase}

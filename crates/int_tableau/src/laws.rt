@@ -1,10 +1,16 @@
 // Laws of tableaus, as functions that do nothing.
-ghost use Rattle.std.specs.Prelude.{◌≡◌, ◌≢◌, ℕ, ℤ, pos};
+ghost use Rattle.std.specs.Prelude.{◌≡◌, ◌≢◌, ◌≤◌, ℕ, ℤ, length, pos};
 ghost use Rattle.lp_form.specs.Program.{LpView};
+ghost use Rattle.lp_form.specs.Small.{IsSmall};
 ghost use Rattle.int_tableau.specs.Content.{Content, IsTableau, IsProgramRow, IsColumn};
 ghost use Rattle.int_tableau.specs.Pivot.{IsPivoted};
 ghost use Rattle.int_tableau.specs.Reached.{IsReachedFrom, HaveOneBasis, IsSameButForOrder};
-ghost use Rattle.int_tableau.specs.Start.{IsStart, start_entry};
+ghost use Rattle.int_tableau.specs.Start.{IsStart, StartsNarrow, start_entry};
+
+/// A small program of few rows may start.
+pub fn small_programs_start_narrow()
+    ensures { (lp : LpView) → IsSmall lp → length lp.rows ≤ 2048 → StartsNarrow lp }
+{}
 
 /// A program's starting tableau is reached from itself.
 pub fn starts_are_reached()

@@ -1,5 +1,5 @@
-ghost use Rattle.std.specs.Prelude.{◌≡◌, ◌≢◌, ◌<◌, ◌^◌, false, pos, unsigned_abs};
-ghost use Rattle.int_tableau.specs.Content.{Content, IsTableau, IsProgramRow, IsColumn};
+ghost use Rattle.std.specs.Prelude.{◌≡◌, ◌≢◌, ◌<◌, ◌<ℤ◌, ◌^◌, false, pos, unsigned_abs};
+ghost use Rattle.int_tableau.specs.Content.{Content, IsTableau, IsProgramRow, IsColumn, right_side};
 ghost use Rattle.int_tableau.specs.Pivot.{PivotAnswer};
 
 use crate::ends::PivotEnd;
@@ -39,14 +39,12 @@ pub trait Tableau {
         ensures narrow { unsigned_abs result < 2 ^ 62 };
 
     /// Makes the column basic in the row. After an error the table is spent: only its size and its basis may be asked.
-    ///
-    /// That the row's right side is 0 where the entry is negative isn't asked of the caller yet. Each pivot of the simplex
-    /// is such a one.
     fn pivot(&mut self, row: u32, col: u32) -> Result<(), PivotEnd>
         requires fresh { (content self.old).spent ≡ false }
         requires program_row { IsProgramRow (content self.old) row }
         requires column { IsColumn (content self.old) col }
         requires not_zero { (content self.old).entry row col ≢ pos 0 }
+        requires level { (content self.old).entry row col <ℤ pos 0 → right_side (content self.old) row ≡ pos 0 }
         ensures answer { PivotAnswer (content self.old) (content self.new) row col result }
         ensures rules { IsTableau (content self.new) };
 }
