@@ -9,7 +9,7 @@ use Rattle.exact_algebra.proofs.SumOrder.{sum_to_at_most, term_at_most}
 use Rattle.corr_game.specs.declared.nodes.SetId.{SetId}
 use Rattle.sequences.specs.declared.places.Place.{Place}
 use Rattle.sequences.specs.Number.{SideView, IsSide, Plays, nothing, further, last_of, count_of}
-use Rattle.sequences.proofs.Holding.{plays-back, set_in}
+use Rattle.sequences.proofs.Holding.{plays-back}
 use Rattle.connected_pairs.specs.Connected.{IsPrefix, itself, longer}
 
 -- a last move, if there is one, is at a set with this property
@@ -55,6 +55,11 @@ pub empty_prefix : (w : SideView) (plan : List (Option ℕ)) (t : ℕ) → Plays
 empty_prefix w plan _ nothing = itself
 empty_prefix w plan _ (further seq move place e named here rest) = longer seq place.own move e (place, here, refl) (empty_prefix w plan place.own rest)
 
+-- a sequence's last set is one of the player's
+pub last_known : (v : SideView) → IsSide v → (x : ℕ) (end : SetId × ℕ) → last_of v x ≡ Some end → end.0.0 < length v.places
+last_known v s zero end e = absurd (cc)
+last_known v s (suc k) end e = let at = s.numbered.each_last k end e in slice_get_within v.places end.0.0 at.0 at.1
+
 -- beside a sequence whose last set is connected to it, a sequence has at most what a prefix has
 pub at_most_prefix : (v w : SideView) (join : ℕ → ℕ → Bool) (value : ℕ → ℕ → ℤ) → IsSetting v w join value → (x : ℕ) (end : SetId × ℕ) → last_of v x ≡ Some end → x < count_of v
     → (y t : ℕ) → IsPrefix w y t → Near (join end.0.0) (last_of w t) → value x t ≤ℤ value x y
@@ -69,7 +74,7 @@ at_most_prefix v w join value s x end last low y _ (longer (suc k) own move e o 
     let this : at.0.first + move.1 ≡ suc k = omega (arith, at.3) in
     let place : at.0 ≡ o.0 = cc (at.1, o.1) in
     let before : at.0.own ≡ own = ap (λ (q : Place). q.own) place ∙ o.2 in
-    let near_own = near_from (join end.0.0) (last_of w own) (λ m h. s.closed_w.back move.0.0 end.0.0 at.0 m (set_in v s.side_v x end last) here at.1 (ap (last_of w) before ∙ h)) in
+    let near_own = near_from (join end.0.0) (last_of w own) (λ m h. s.closed_w.back move.0.0 end.0.0 at.0 m (last_known v s.side_v x end last) here at.1 (ap (last_of w) before ∙ h)) in
     let less = at_most_prefix v w join value s x end last low y own rest near_own in
     omega (arith, ints, row, term, ap (value x) this, ap (value x) before, less)
 

@@ -40,28 +40,28 @@ value_not_negative : (values : List ℤ) → ((k : ℕ) → pos 0 ≤ℤ slice_i
 value_not_negative values h None = omega (arith, ints)
 value_not_negative values h (Some k) = h k
 
-pub setting_one : (p : PairsView) (values : List ℤ) → IsPairs p → MeetsRows p values → ((side : Side) → IsClosedBack p side) → IsSetting p.seqs.one p.seqs.two (λ i k. are_connected p i k) (λ x y. value_of p values One x y)
+pub setting_one : {g : GameView} (p : PairsView) (values : List ℤ) → IsPairsOf g p → IsPairs p → MeetsRows p values → IsSetting p.seqs.one p.seqs.two (λ i k. are_connected p i k) (λ x y. value_of p values One x y)
 unfolding IsClosedBack
-setting_one p values rules s closed = record {
+setting_one p values of rules s = record {
   side_v = rules.sides One;
   side_w = rules.sides Two;
   rows_v = record { row = λ set place y at low near. s.row One set place y at low (touched_two p set (last_of p.seqs.two y) near) };
   rows_w = record { row = λ set place x at low near. s.row Two set place x at low (touched_one p set (last_of p.seqs.one x) near) };
   not_negative = λ x y. value_not_negative values s.not_negative (index_of p x y);
-  closed_v = record { back = λ set k place move low j at e. closed One set k place move low j at e };
-  closed_w = record { back = λ set k place move low j at e. closed Two set k place move low j at e };
+  closed_v = record { back = λ set k place move low j at e. of.closed One set k place move low j at e };
+  closed_w = record { back = λ set k place move low j at e. of.closed Two set k place move low j at e };
 }
 
-pub setting_two : (p : PairsView) (values : List ℤ) → IsPairs p → MeetsRows p values → ((side : Side) → IsClosedBack p side) → IsSetting p.seqs.two p.seqs.one (λ k i. are_connected p i k) (λ y x. value_of p values Two y x)
+pub setting_two : {g : GameView} (p : PairsView) (values : List ℤ) → IsPairsOf g p → IsPairs p → MeetsRows p values → IsSetting p.seqs.two p.seqs.one (λ k i. are_connected p i k) (λ y x. value_of p values Two y x)
 unfolding IsClosedBack
-setting_two p values rules s closed = record {
+setting_two p values of rules s = record {
   side_v = rules.sides Two;
   side_w = rules.sides One;
   rows_v = record { row = λ set place x at low near. s.row Two set place x at low (touched_one p set (last_of p.seqs.one x) near) };
   rows_w = record { row = λ set place y at low near. s.row One set place y at low (touched_two p set (last_of p.seqs.two y) near) };
   not_negative = λ y x. value_not_negative values s.not_negative (index_of p x y);
-  closed_v = record { back = λ set k place move low j at e. closed Two set k place move low j at e };
-  closed_w = record { back = λ set k place move low j at e. closed One set k place move low j at e };
+  closed_v = record { back = λ set k place move low j at e. of.closed Two set k place move low j at e };
+  closed_w = record { back = λ set k place move low j at e. of.closed One set k place move low j at e };
 }
 
 -- the two plans play the same pairs from either side
@@ -106,10 +106,10 @@ fair_after_one g p values of rules s old new at beside action seq near walk fair
     let w = p.seqs.two in
     let join = λ (i k : ℕ). are_connected p i k in
     let value = λ (x y : ℕ). value_of p values One x y in
-    let setting = setting_one p values rules s.rows of.closed in
+    let setting = setting_one p values of rules s.rows in
     let choice : IsChoice v w join value old.one.actions.items old.one.beside.items new.one.beside.items old.two.beside.items new.two.beside.items (at, action) beside seq near = record {
       per_set = walk.one.per_set ∙ sym (of.sides One).per_set;
-      per_set_w = walk.two.per_set ∙ sym (of.sides Two).per_set;
+      other_per_set = walk.two.per_set ∙ sym (of.sides Two).per_set;
       led = walk.one.led;
       none = before.1;
       ends = ends;
@@ -140,10 +140,10 @@ fair_after_two g p values of rules s old new at beside action seq near walk fair
     let w = p.seqs.one in
     let join = λ (k i : ℕ). are_connected p i k in
     let value = λ (x y : ℕ). value_of p values Two x y in
-    let setting = setting_two p values rules s.rows of.closed in
+    let setting = setting_two p values of rules s.rows in
     let choice : IsChoice v w join value old.two.actions.items old.two.beside.items new.two.beside.items old.one.beside.items new.one.beside.items (at, action) beside seq near = record {
       per_set = walk.two.per_set ∙ sym (of.sides Two).per_set;
-      per_set_w = walk.one.per_set ∙ sym (of.sides One).per_set;
+      other_per_set = walk.one.per_set ∙ sym (of.sides One).per_set;
       led = walk.two.led;
       none = before.1;
       ends = ends;
@@ -214,11 +214,11 @@ pub goes_on : (g : GameView) (p : PairsView) (values : List ℤ) → IsPairsOf g
     → Waits (part_of side walk).beside.items set.0 t → IsLongest p (other side) set.0 t near → ((action end : ℕ) → Ends (side_of side p.seqs).places (set, action) end → value_of p values side end near ≤ℤ pos 0) → ⊥
 goes_on g p values of rules s walk w fair One set t near o longest stuck =
     let place = within p.seqs.one.places set.0 (omega (arith, slice_get_within walk.one.beside.items set.0 (Some t) o, w.one.per_set, (of.sides One).per_set)) in
-    some_move p.seqs.one p.seqs.two (λ i k. are_connected p i k) (λ x y. value_of p values One x y) walk.one.actions.items walk.one.beside.items walk.two.actions.items walk.two.beside.items (setting_one p values rules s.rows of.closed) fair.positive fair.one
+    some_move p.seqs.one p.seqs.two (λ i k. are_connected p i k) (λ x y. value_of p values One x y) walk.one.actions.items walk.one.beside.items walk.two.actions.items walk.two.beside.items (setting_one p values of rules s.rows) fair.positive fair.one
     set t near place.0 place.1 (w.one.waiting set.0 t place.0 place.1 o).0 o longest.prefix (near_two p set.0 (last_of p.seqs.two near) longest.touched) stuck
 goes_on g p values of rules s walk w fair Two set t near o longest stuck =
     let place = within p.seqs.two.places set.0 (omega (arith, slice_get_within walk.two.beside.items set.0 (Some t) o, w.two.per_set, (of.sides Two).per_set)) in
-    some_move p.seqs.two p.seqs.one (λ k i. are_connected p i k) (λ y x. value_of p values Two y x) walk.two.actions.items walk.two.beside.items walk.one.actions.items walk.one.beside.items (setting_two p values rules s.rows of.closed)
+    some_move p.seqs.two p.seqs.one (λ k i. are_connected p i k) (λ y x. value_of p values Two y x) walk.two.actions.items walk.two.beside.items walk.one.actions.items walk.one.beside.items (setting_two p values of rules s.rows)
     (positive_from_two p values walk.one.actions.items walk.two.actions.items fair.positive) fair.two
     set t near place.0 place.1 (w.two.waiting set.0 t place.0 place.1 o).0 o longest.prefix (near_one p set.0 (last_of p.seqs.one near) longest.touched) stuck
 

@@ -1,6 +1,7 @@
 -- The search for the only open set that is connected to a first one.
 use Rattle.std.proofs.Common.{◌≡◌, ℕ, ◌+◌, ◌<◌, ◌≤◌, Bool, true, false, List, Option, Some, None, length, refl, inl, inr, arith}
 use Rattle.std.specs.Prelude.{IfSome, IfNone, is_some}
+use Rattle.std.specs.Option.{IsSome}
 use Rattle.std.proofs.lemmas.Bool.{cases_eq}
 use Rattle.std.proofs.lemmas.Option.{slice_get_within}
 use Rattle.corr_game.specs.declared.sides.Side.{Side}
@@ -8,6 +9,11 @@ use Rattle.plan_decompose.specs.declared.opens.Open.{Open}
 use Rattle.plan_decompose.specs.declared.walks.Walk.{Walk}
 use Rattle.plan_decompose.specs.Walk.{IsOpenOf, part_of}
 use Rattle.plan_decompose.specs.Fair.{IsNotOne, IsOnlyJoined, Waits}
+
+-- where the search can't fail there is an answer
+pub is_there : {P : Type 0} (r : Option ℕ) → IfNone r P → (P → ⊥) → IsSome r
+is_there None none never = absurd (never none)
+is_there (Some x) none never = refl
 
 -- of the first n sets none is open and connected, or this one alone is
 abbrev pub IsFound : Side → (ℕ → Bool) → List (Option ℕ) → ℕ → Option Open → Type 0

@@ -8,11 +8,11 @@ use Rattle.exact_algebra.proofs.Sums.{sum_to-same, sum_to-changed}
 use Rattle.corr_game.specs.declared.nodes.SetId.{SetId}
 use Rattle.sequences.specs.declared.places.Place.{Place}
 use Rattle.sequences.specs.Number.{SideView, IsSide, IsOwn, Plays, nothing, further, last_of, count_of}
-use Rattle.sequences.proofs.Holding.{own_lower, set_in, plays-back, plays-named}
+use Rattle.sequences.proofs.Holding.{own_lower, plays-back, plays-named}
 use Rattle.connected_pairs.specs.Connected.{PairsView, IsPairs, IsPlaced, are_connected, index_of, is_related, is_relevant}
 use Rattle.connected_pairs.proofs.Listing.{cell}
 use Rattle.plan_decompose.specs.Reduced.{IsReduced}
-use Rattle.plan_decompose.proofs.Fairness.{HasRows, IsClosed, near_at}
+use Rattle.plan_decompose.proofs.Fairness.{HasRows, IsClosed, last_known, near_at}
 use Rattle.plan_decompose.proofs.Walking.{last_is}
 
 unlisted : (v : SideView) (plan : List (Option ℕ)) (k : ℕ) → Plays v plan (suc k) → slice_get v.lasts k ≡ None → ⊥
@@ -79,7 +79,7 @@ rows_kept v w join value after plan_v plan_w weight sv sw closed rows loses redu
       let in_range = sv.numbered.in_range set place at in
       let earlier = sv.numbered.own_before set place at in
       let last = λ (a : ℕ) (h : a < n). last_is v sv (id, a) (place.first + a) (place, at, h, refl) in
-      let own = loses place.own y (omega arith) low (λ a b e k. closed.back set b.0.0 place a (set_in w sw y b k) (near_at (join set) (last_of w y) near b k) at e) in
+      let own = loses place.own y (omega arith) low (λ a b e k. closed.back set b.0.0 place a (last_known w sw y b k) (near_at (join set) (last_of w y) near b k) at e) in
       let each = λ (a : ℕ) (h : a < n). loses (place.first + a) y (omega arith) low (λ m b e k. (let one : m ≡ (id, a) = cc (e, last a h) in rw one (near_at (join set) (last_of w y) near b k))) in
       let is_own : IsOwn v set place.own = (place, at, refl) in
       elim (plays_or_not w sw plan_w (suc y) y (omega arith)) [

@@ -8,20 +8,20 @@ use Rattle.corr_game.specs.declared.nodes.SetId.{SetId}
 use Rattle.sequences.specs.declared.places.Place.{Place}
 use Rattle.sequences.specs.Number.{SideView, Ends, IsOwn, Plays, further, last_of}
 use Rattle.sequences.proofs.Adding.{within}
-use Rattle.sequences.proofs.Holding.{none-empty, set_in}
+use Rattle.sequences.proofs.Holding.{none-empty}
 use Rattle.connected_pairs.proofs.Indices.{move_in}
 use Rattle.connected_pairs.specs.Connected.{IsPrefix, itself, longer}
 use Rattle.plan_decompose.specs.Fair.{IsHalf, IsNotOne, IsOnlyJoined, Waits}
 use Rattle.plan_decompose.specs.OpenSets.{AreOpened, Moves}
 use Rattle.plan_decompose.specs.Solution.{ArePositive}
-use Rattle.plan_decompose.proofs.Fairness.{IsSetting, Near, near_from, near_at, at_most_prefix, empty_prefix, plays_in, prefix_played, some_positive}
+use Rattle.plan_decompose.proofs.Fairness.{IsSetting, Near, near_from, near_at, at_most_prefix, last_known, empty_prefix, plays_in, prefix_played, some_positive}
 use Rattle.plan_decompose.proofs.Walking.{IsLed, set_same, set_other, last_is, plays_more, plays_less}
 
 -- a choice of v at a centre: `move`, which ends `end`, at a set beside `t`, where `near` is the longest part of `t` that
 -- is relevant
 pub record IsChoice (v w : SideView) (join : ℕ → ℕ → Bool) (value : ℕ → ℕ → ℤ) (plan_v open_v after_v open_w after_w : List (Option ℕ)) (move : SetId × ℕ) (t end near : ℕ) : Type 0 where
   pub per_set : length open_v ≡ length v.places
-  pub per_set_w : length open_w ≡ length w.places
+  pub other_per_set : length open_w ≡ length w.places
   pub led : IsLed v plan_v
   pub none : slice_get plan_v move.0.0 ≡ Some None
   pub ends : Ends v.places move end
@@ -100,13 +100,13 @@ half_after v w join value plan_v open_v after_v plan_w open_w after_w move t end
           let there = was_open k u p in
           elim (cases i x o) [
             | inl new ↦
-                let joined_here = s.closed_v.back i k new.0.0 move (slice_get_within w.places k place at) joined new.0.1 (ap (last_of v) new.0.2 ∙ last) in
+                let joined_here = s.closed_v.back i k new.0.0 move (omega (arith, slice_get_within open_w k (Some there.0) there.1, c.other_per_set)) joined new.0.1 (ap (last_of v) new.0.2 ∙ last) in
                 half.alike move.0.0 t k there.0 place c.is_open there.1 joined_here at ∙ sym new.1
             | inr old ↦ half.alike i x k there.0 place old.1 there.1 joined at
           ];
       lies = λ i x y b o py e joined. elim (cases i x o) [
         | inl new ↦
-            let joined_here = s.closed_v.back i b.0.0 new.0.0 move (set_in w s.side_w y b e) joined new.0.1 (ap (last_of v) new.0.2 ∙ last) in
+            let joined_here = s.closed_v.back i b.0.0 new.0.0 move (last_known w s.side_w y b e) joined new.0.1 (ap (last_of v) new.0.2 ∙ last) in
             rw new.1 (half.lies move.0.0 t y b c.is_open py e joined_here)
         | inr old ↦ half.lies i x y b old.1 py e joined
       ];
@@ -135,7 +135,7 @@ other_half_after v w join value plan_v open_v after_v plan_w open_w after_w move
           | inr old ↦ absurd (old.0 (c.centre k new.1.0 i x new.1.1 new.0 old.1 joined))
         ]
         | inr apart ↦ elim (cases i x p) [
-          | inl opened ↦ absurd (apart.0 (s.closed_v.back i k opened.0.0 move (omega (arith, slice_get_within open_w k (Some u) apart.1, c.per_set_w)) joined opened.0.1 (ap (last_of v) opened.0.2 ∙ last)))
+          | inl opened ↦ absurd (apart.0 (s.closed_v.back i k opened.0.0 move (omega (arith, slice_get_within open_w k (Some u) apart.1, c.other_per_set)) joined opened.0.1 (ap (last_of v) opened.0.2 ∙ last)))
           | inr old ↦ half.alike k u i x place apart.1 old.1 joined at
         ]
       ];
@@ -212,6 +212,6 @@ pub some_move : (v w : SideView) (join : ℕ → ℕ → Bool) (value : ℕ → 
     → ((action end : ℕ) → Ends v.places (set, action) end → value end near ≤ℤ pos 0) → ⊥
 some_move v w join value plan_v open_v plan_w open_w s positive half set t near place at own o prefix touched stuck =
     let played = prefix_played w plan_w near t prefix (half.played set.0 t o) in
-    let here = positive place.own near own played (λ a b e f. s.closed_v.back set.0 b.0.0 place a (set_in w s.side_w near b f) (near_at (join set.0) (last_of w near) touched b f) at e) in
+    let here = positive place.own near own played (λ a b e f. s.closed_v.back set.0 b.0.0 place a (last_known w s.side_w near b f) (near_at (join set.0) (last_of w near) touched b f) at e) in
     let row = s.rows_v.row set.0 place near at (plays_in w plan_w near played) touched in
     some_positive place.actions (λ a. value (place.first + a) near) (omega (arith, ints, row, here)) (λ a low. stuck a (place.first + a) (place, at, low, refl))

@@ -47,11 +47,6 @@ positives_fall (y ∷ ys) (z ∷ zs) e h zero low was is =
 positives_fall (y ∷ ys) (z ∷ zs) e h (suc j) low was is =
     omega (arith, one_le z y (h 0 (omega arith)), positives_fall ys zs (omega arith) (λ k low. h (suc k) (omega arith)) j (omega arith) was is)
 
-pub positives_some : (values : List ℤ) (k : ℕ) → pos 1 ≤ℤ slice_index_or values k (pos 0) → 1 ≤ positives values
-positives_some [] k h = absurd (omega (arith, ints))
-positives_some (z ∷ zs) zero h = omega (arith, one_is z h)
-positives_some (z ∷ zs) (suc k) h = omega (arith, positives_some zs k h)
-
 one_most : (a : ℤ) → one_if_positive a ≤ 1
 one_most (pos zero) = omega arith
 one_most (pos (suc n)) = omega arith

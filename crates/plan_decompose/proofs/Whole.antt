@@ -1,4 +1,4 @@
--- For values that meet the rows: what is left meets them too, a turn finds an entry, and turns are enough.
+-- For values that meet the rows: what is left meets them too, and a turn finds an entry.
 use Rattle.std.proofs.Common.{◌≡◌, ℕ, ◌+◌, ◌*◌, ◌<◌, ◌≤◌, zero, suc, true, ℤ, pos, ◌≤ℤ◌, List, [], ◌∷◌, Option, Some, None, length, All, slice_get, slice_index_or, refl, sym, ap, inl, inr, arith}
 use Rattle.std.proofs.lemmas.Bool.{cases_lt}
 use Rattle.std.proofs.lemmas.Int.{ints}
@@ -13,13 +13,13 @@ use Rattle.corr_game.specs.Plan.{IsPlan}
 use Rattle.sequences.specs.declared.places.Place.{Place}
 use Rattle.sequences.specs.Number.{SideView, IsSideOf, nothing, last_of, count_of, side_of}
 use Rattle.sequences.proofs.Adding.{within}
-use Rattle.connected_pairs.specs.Connected.{PairsView, IsClosedBack, IsPairs, IsPairsOf, are_connected, index_of, is_related, other, IsTouched}
+use Rattle.connected_pairs.specs.Connected.{PairsView, IsPairs, IsPairsOf, are_connected, index_of, is_related, other, IsTouched}
 use Rattle.plan_decompose.specs.Entry.{AreTakenOff, IsLeast, NonePlayed, PlayBoth}
 use Rattle.plan_decompose.specs.Reduced.{IsReduced}
 use Rattle.plan_decompose.specs.Solution.{ArePositive, IsSolution, MeetsRows, positives, value_at, value_of}
 use Rattle.plan_decompose.proofs.Going.{near_one, near_two, setting_one, setting_two}
 use Rattle.plan_decompose.proofs.Rest.{Loses, index_is, rows_kept}
-use Rattle.plan_decompose.proofs.Turns.{at_most_total, positives_fall, positives_some, zero_or_more}
+use Rattle.plan_decompose.proofs.Turns.{at_most_total, positives_fall, zero_or_more}
 
 past : (values : List ℤ) (k : ℕ) → length values ≤ k → slice_index_or values k (pos 0) ≡ pos 0
 past [] k h = refl
@@ -54,8 +54,8 @@ pub rows_left : (g : GameView) (p : PairsView) → IsPairsOf g p → IsPairs p �
     → length new ≡ length p.pairs → IsPlan One g one → IsPlan Two g two → IsReduced p.seqs.one one → IsReduced p.seqs.two two
     → ((k : ℕ) (pair : ℕ × ℕ) → slice_get p.pairs k ≡ Some pair → PlayBoth p.seqs one two pair → weight ≤ℤ slice_index_or old k (pos 0)) → MeetsRows p new
 rows_left g p of rules old new one two weight s off count plan_one plan_two reduced_one reduced_two least =
-    let first = setting_one p old rules s.rows of.closed in
-    let second = setting_two p old rules s.rows of.closed in
+    let first = setting_one p old of rules s.rows in
+    let second = setting_two p old of rules s.rows in
     let kept_one = rows_kept p.seqs.one p.seqs.two (λ i k. are_connected p i k) (λ x y. value_of p old One x y) (λ x y. value_of p new One x y) one two weight (rules.sides One) (rules.sides Two) first.closed_v first.rows_v
     (loses_one p rules old new one two weight off) reduced_one (named_in One g p.seqs.one one (of.sides One) plan_one) in
     let kept_two = rows_kept p.seqs.two p.seqs.one (λ k i. are_connected p i k) (λ y x. value_of p old Two y x) (λ y x. value_of p new Two y x) two one weight (rules.sides Two) (rules.sides One) second.closed_v second.rows_v
@@ -123,9 +123,9 @@ fewer_left p old new one two place off count same least positive =
     positives_fall old new same lower place least.in_range positive gone
 
 -- where some value is left, the total is
-pub total_left : (p : PairsView) → IsPairs p → (values : List ℤ) → MeetsRows p values → ((side : Side) → IsClosedBack p side) → length values ≡ length p.pairs → (All (λ value. value ≡ pos 0) values → ⊥) → pos 1 ≤ℤ value_of p values One 0 0
-total_left p rules values rows closed count left =
-    let setting = setting_one p values rules rows closed in
+pub total_left : {g : GameView} (p : PairsView) → IsPairsOf g p → IsPairs p → (values : List ℤ) → MeetsRows p values → length values ≡ length p.pairs → (All (λ value. value ≡ pos 0) values → ⊥) → pos 1 ≤ℤ value_of p values One 0 0
+total_left p of rules values rows count left =
+    let setting = setting_one p values of rules rows in
     elim (zero_or_more (value_of p values One 0 0) (setting.not_negative 0 0)) [
       | inl none ↦ absurd (left (All-from_get_or (λ value. value ≡ pos 0) values (pos 0) (λ k low.
           let pair = within p.pairs k (omega arith) in
@@ -134,9 +134,3 @@ total_left p rules values rows closed count left =
           omega (arith, ints, most, none, value_listed p rules values k pair.0 pair.1, rows.not_negative k))))
       | inr some ↦ some
     ]
-
--- while the total is left, a positive value is
-pub positives_left : (p : PairsView) → IsPairs p → (values : List ℤ) → pos 1 ≤ℤ value_of p values One 0 0 → 1 ≤ positives values
-positives_left p rules values total =
-    let at = index_is p rules 0 0 (omega arith) (omega arith) (λ a b e f. absurd (cc)) in
-    positives_some values at.0 (rw at.1 at total)

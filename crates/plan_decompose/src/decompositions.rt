@@ -1,11 +1,9 @@
-ghost use Rattle.std.specs.Prelude.{◌≡◌, ◌≤◌, ◌↔◌, ℕ, pos, length, slice_get, slice_index_or, All, IfOk, IsTrue, Some, Err};
+ghost use Rattle.std.specs.Prelude.{◌≡◌, ◌≤◌, ◌↔◌, ℕ, pos, length, slice_get, slice_index_or, All, IfOk, IsTrue, Some};
 ghost use Rattle.corr_num.specs.Narrow.{Narrow};
 ghost use Rattle.connected_pairs.specs.Connected.{IsPairsOf};
 ghost use Rattle.plan_decompose.specs.Entry.{IsEntry, SumsTo};
 ghost use Rattle.plan_decompose.specs.Solution.{IsSolution};
-ghost use Rattle.plan_decompose.specs.declared.ends.DecomposeEnd.TheVariants.{NotBuilt};
 
-use crate::ends::DecomposeEnd;
 use crate::entries::take_entry;
 use connected_pairs::Pairs;
 use corr_game::{Game, PairList};
@@ -18,27 +16,26 @@ pub fn decompose(
     game: &Game,
     pairs: &Pairs,
     values: NumList,
-) -> Result<PairList, DecomposeEnd>
+) -> Result<PairList, NoMemory>
     requires whose { IsPairsOf game.now pairs.now }
     requires per_pair { length values ≡ length pairs.now.pairs }
     requires narrow { All Narrow values }
+    requires solution { IsSolution pairs.now values }
     ensures entries { IfOk result (λ list. All (IsEntry game.now pairs.now.seqs) list) }
     ensures sums { IfOk result
         (λ list. (k : ℕ) (pair : ℕ × ℕ) → slice_get pairs.now.pairs k ≡ Some pair → SumsTo pairs.now.seqs pair list (slice_index_or values k (pos 0))) }
     ensures some { IfOk result (λ list. 1 ≤ length list) }
     ensures few { IfOk result (λ list. length list ≤ length pairs.now.pairs) }
-    ensures goes_on { IsSolution pairs.now values → result ≡ Err NotBuilt → ⊥ }
 {
-    let mut rest = copied(alloc, &values)?;
+    let mut rest = copied(alloc, &values, pairs.len())?;
     let mut list = PairList::new(alloc);
-    for _ in 0..pairs.len() {
+    loop {
         let entry = take_entry(alloc, game, pairs, &mut rest)?;
         list.push(entry)?;
         if nothing_left(&rest) {
             return Ok(list);
         }
     }
-    Err(DecomposeEnd::NotBuilt)
 }
 
 fn nothing_left(rest: &[i128]) -> bool
@@ -47,12 +44,14 @@ fn nothing_left(rest: &[i128]) -> bool
     rest.iter().all(|value| *value == 0)
 }
 
-fn copied(alloc: Global, values: &NumList) -> Result<Vec<i128>, NoMemory>
+/// The numbers of a list, `count` of them.
+fn copied(alloc: Global, values: &NumList, count: u32) -> Result<Vec<i128>, NoMemory>
+    requires { length values.now ≡ count }
     ensures { IfOk result (λ copy. copy.items ≡ values.now) }
 {
-    let mut copy = Vec::with_capacity(alloc, values.len())?;
-    for k in 0..values.len() {
-        copy.push(*values.at(k))?;
+    let mut copy = Vec::with_capacity(alloc, count as usize)?;
+    for k in 0..count {
+        copy.push(*values.at(k as usize))?;
     }
     Ok(copy)
 }

@@ -1,16 +1,14 @@
-ghost use Rattle.std.specs.Prelude.{◌≡◌, ◌<◌, ◌≤◌, ◌+◌, ◌↔◌, ◌⊎◌, ◌≤ℤ◌, ℕ, pos, length, slice_get, slice_index_or, All, IfNone, IfOk, IfSome, IsTrue, Some, Err};
+ghost use Rattle.std.specs.Prelude.{◌≡◌, ◌<◌, ◌≤◌, ◌+◌, ◌↔◌, ◌⊎◌, ◌≤ℤ◌, ℕ, pos, length, slice_get, slice_index_or, All, IfNone, IfOk, IfSome, IsTrue, Some};
 ghost use Rattle.corr_num.specs.Narrow.{Narrow};
 ghost use Rattle.connected_pairs.specs.Connected.{IsPairs, IsPairsOf};
 ghost use Rattle.plan_decompose.specs.Entry.{AreTakenOff, IsEntry, IsLeast, NonePlayed, PlayBoth};
 ghost use Rattle.plan_decompose.specs.Solution.{IsSolution, MeetsRows, positives};
-ghost use Rattle.plan_decompose.specs.declared.ends.DecomposeEnd.TheVariants.{NotBuilt};
 
-use crate::ends::DecomposeEnd;
 use crate::picks::pick;
 use connected_pairs::Pairs;
 use corr_game::{Game, Pair, Plan, Side};
 use corr_num::difference;
-use std::alloc::Global;
+use std::alloc::{AllocError as NoMemory, Global};
 
 /// Takes one pair of plans off the values, with the greatest weight that leaves none below 0.
 pub fn take_entry(
@@ -18,27 +16,22 @@ pub fn take_entry(
     game: &Game,
     pairs: &Pairs,
     values: &mut [i128],
-) -> Result<Pair, DecomposeEnd>
+) -> Result<Pair, NoMemory>
     requires whose { IsPairsOf game.now pairs.now }
     requires rules { IsPairs pairs.now }
     requires per_pair { length values.old ≡ length pairs.now.pairs }
     requires narrow { All Narrow values.old }
+    requires solution { IsSolution pairs.now values.old }
     ensures entry { IfOk result (λ entry. IsEntry game.now pairs.now.seqs entry) }
     ensures taken { IfOk result
         (λ entry. AreTakenOff pairs.now entry.one entry.two entry.weight values.old values.new) }
     ensures narrow { IfOk result (λ _. All Narrow values.new) }
     ensures fewer { IfOk result (λ _. positives values.new + 1 ≤ positives values.old) }
-    ensures rows { IsSolution pairs.now values.old → IfOk result (λ _. MeetsRows pairs.now values.new) }
-    ensures goes_on { IsSolution pairs.now values.old → result ≡ Err NotBuilt → ⊥ }
+    ensures rows { IfOk result (λ _. MeetsRows pairs.now values.new) }
 {
     let (one, two) = pick(alloc, game, pairs, values)?;
-    let Some(least) = least_place(pairs, &one, &two, values) else {
-        return Err(DecomposeEnd::NotBuilt);
-    };
+    let least = least_place(pairs, &one, &two, values).unwrap();
     let weight = values[least as usize];
-    if weight <= 0 {
-        return Err(DecomposeEnd::NotBuilt);
-    }
     take_off(pairs, &one, &two, weight, values);
     Ok(Pair { one, two, weight })
 }

@@ -1,7 +1,7 @@
 ghost use Rattle.std.specs.Prelude.{◌≡◌, ◌<◌, ℕ, length, slice_get, IfNone, IfSome, Some};
 ghost use Rattle.corr_game.specs.Game.{sets_of};
-ghost use Rattle.sequences.specs.Number.{side_of};
-ghost use Rattle.connected_pairs.specs.Connected.{IsPairsOf, other, touches};
+ghost use Rattle.sequences.specs.Number.{IsSideOf, side_of};
+ghost use Rattle.connected_pairs.specs.Connected.{other, touches};
 ghost use Rattle.plan_decompose.specs.Fair.{IsNotOne, IsOnlyJoined, Waits};
 ghost use Rattle.plan_decompose.specs.OpenSets.{AreMoved, AreOpened};
 
@@ -36,7 +36,7 @@ pub fn first_open(game: &Game, side: Side, beside: &[Option<u32>]) -> Option<Ope
 
 /// The only open set of the other player that is connected to this one, if there is exactly one.
 pub fn only_joined(game: &Game, pairs: &Pairs, first: Open, beside: &[Option<u32>]) -> Option<Open>
-    requires whose { IsPairsOf game.now pairs.now }
+    requires sides { (side : Side) → IsSideOf side game.now (side_of side pairs.now.seqs) }
     requires per_set { length beside.now ≡ length (sets_of (other first.side) game.now) }
     requires known { first.set.0 < length (sets_of first.side game.now) }
     ensures some { IfSome result
@@ -72,7 +72,7 @@ pub fn open_after(
     sequence: u32,
     beside: &mut Vec<Option<u32>>,
 )
-    requires whose { IsPairsOf game.now pairs.now }
+    requires sides { (side : Side) → IsSideOf side game.now (side_of side pairs.now.seqs) }
     requires per_set { length beside.old.items ≡ length (sets_of after.0 game.now) }
     ensures { AreOpened (side_of after.0 pairs.now.seqs) after.1 sequence beside.old.items beside.new.items }
 {
@@ -91,7 +91,7 @@ pub fn move_beside(
     sequence: u32,
     beside: &mut Vec<Option<u32>>,
 )
-    requires whose { IsPairsOf game.now pairs.now }
+    requires sides { (side : Side) → IsSideOf side game.now (side_of side pairs.now.seqs) }
     requires per_set { length beside.old.items ≡ length (sets_of (other settled.0) game.now) }
     requires known { settled.1.0 < length (sets_of settled.0 game.now) }
     ensures { AreMoved pairs.now settled.0 settled.1.0 sequence beside.old.items beside.new.items }

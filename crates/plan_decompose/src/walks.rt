@@ -1,4 +1,4 @@
-ghost use Rattle.std.specs.Prelude.{◌≡◌, ◌<◌, ◌+◌, ◌≤ℤ◌, ℕ, ℤ, pos, List, length, slice_get, slice_set, Some, None, IfNone, IfOk, IfSome, OnErr, OnOk};
+ghost use Rattle.std.specs.Prelude.{◌≡◌, ◌<◌, ◌+◌, ◌≤ℤ◌, ℕ, ℤ, pos, List, length, slice_get, slice_set, Some, None, IfNone, IfOk, IfSome};
 ghost use Rattle.corr_game.specs.declared.sides.Side.TheVariants.{One, Two};
 ghost use Rattle.sequences.specs.Number.{Ends, side_of};
 ghost use Rattle.connected_pairs.specs.Connected.{IsPairs, IsPairsOf, other, touches};
@@ -8,7 +8,6 @@ ghost use Rattle.plan_decompose.specs.Solution.{IsSolution, value_of};
 ghost use Rattle.plan_decompose.specs.Walk.{IsActionOf, IsFresh, IsOpenOf, IsSideWalk, IsWalk, NoneOpen, part_of, unchosen, unsettled};
 
 use crate::actions::positive_action;
-use crate::ends::DecomposeEnd;
 use crate::opens::{Open, first_open, move_beside, only_joined, open_after};
 use connected_pairs::Pairs;
 use corr_game::{Game, Side};
@@ -123,28 +122,21 @@ impl Walk {
     }
 
     /// Chooses an action of positive value at an open set.
-    pub fn settle(
-        &mut self,
-        game: &Game,
-        pairs: &Pairs,
-        values: &[i128],
-        at: Open,
-    ) -> Result<(), DecomposeEnd>
+    pub fn settle(&mut self, game: &Game, pairs: &Pairs, values: &[i128], at: Open)
         requires whose { IsPairsOf game.now pairs.now }
         requires rules { IsPairs pairs.now }
         requires per_pair { length values.now ≡ length pairs.now.pairs }
         requires before { IsWalk game.now pairs.now self.old }
         requires is_open { IsOpenOf self.old at }
-        ensures walk { OnOk result (IsWalk game.now pairs.now self.new) }
-        ensures fewer { OnOk result (unsettled self.new + 1 ≡ unsettled self.old) }
-        ensures fair { IsSolution pairs.now values.now → IsFair pairs.now values.now self.old → IsNext pairs.now self.old at → OnOk result (IsFair pairs.now values.now self.new) }
-        ensures goes_on { IsSolution pairs.now values.now → IsFair pairs.now values.now self.old → OnErr result ⊥ }
+        requires solution { IsSolution pairs.now values.now }
+        requires fair { IsFair pairs.now values.now self.old }
+        requires next { IsNext pairs.now self.old at }
+        ensures walk { IsWalk game.now pairs.now self.new }
+        ensures fewer { unsettled self.new + 1 ≡ unsettled self.old }
+        ensures fair { IsFair pairs.now values.now self.new }
     {
-        let Some(action) = positive_action(game, pairs, values, at) else {
-            return Err(DecomposeEnd::NotBuilt);
-        };
+        let action = positive_action(game, pairs, values, at).unwrap();
         self.choose(game, pairs, at, action);
-        Ok(())
     }
 
     /// Chooses an action at an open set. The other player's open sets that are connected to it stand beside the move
