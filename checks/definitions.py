@@ -4,8 +4,9 @@ belt of sides. They go through plans and deviations one by one, so games have to
 A tree is ("t", (one, two)), ("c", [(probability, tree), ..]) or ("p", player, set, [tree, ..]), with numbers as the file writes them.
 """
 from fractions import Fraction
+from functools import reduce
 from itertools import product
-from math import lcm
+from math import gcd
 
 AXES = ((1, 0), (0, 1), (-1, 0), (0, -1))
 
@@ -49,7 +50,7 @@ class Game:
         self.forgets = False
         self.paid = []
         self._walk(tree, Fraction(1), {1: (), 2: ()}, ())
-        self.scale = {i: lcm(*((p * Fraction(pays[i - 1])).denominator for p, pays, _, _ in self.paid)) for i in (1, 2)}
+        self.scale = {i: common_multiple((p * Fraction(pays[i - 1])).denominator for p, pays, _, _ in self.paid) for i in (1, 2)}
         self.leaves = [
             (tuple(int(p * Fraction(pays[i - 1]) * self.scale[i]) for i in (1, 2)), one, two) for p, pays, one, two in self.paid
         ]
@@ -126,6 +127,10 @@ class Game:
     def program(self, notion):
         """The rows as dictionaries by column, the number of columns, and the payoffs by column."""
         return Program(self, notion)
+
+
+def common_multiple(numbers):
+    return reduce(lambda a, b: a * b // gcd(a, b), numbers, 1)
 
 
 def plays(plan, sequence):
