@@ -1,0 +1,339 @@
+"""Reports and game files as the tools beside `corr` read them, and what these tools share at the command line.
+
+A report is read in the whole of its format, a game file by its grammar alone: whether a report is true, and a game one that `corr` accepts, is for
+`corr` to say. docs/FORMATS.md has both formats.
+"""
+import argparse
+import os
+import re
+import signal
+import sys
+from collections import namedtuple
+from fractions import Fraction
+
+NOTIONS = ("efce", "efcce", "nfcce")
+
+BAD_INPUT, BAD_WORDS, UNREADABLE, UNWRITABLE = 2, 64, 72, 74
+
+
+class Bad(Exception):
+    """What a tool refuses, as its line says it, and the status that the tool ends with."""
+
+    def __init__(self, line, status=BAD_INPUT):
+        super().__init__(line)
+        self.status = status
+
+
+# Reports
+
+Report = namedtuple("Report", "scales blocks")
+Block = namedtuple("Block", "notion kind corners")  # the kind is found, empty or toowide; only a found block has corners
+Corner = namedtuple("Corner", "point total pairs")
+Pair = namedtuple("Pair", "weight one two")  # a plan is a list of actions from 1, None where it never gets there
+
+NATURAL = "(?:0|[1-9][0-9]{0,37})"  # a report's numbers are below 2^126
+POSITIVE = "([1-9][0-9]{0,37})"
+INTEGER = f"(-?{NATURAL})"
+FRACTION = f"(-?{NATURAL}(?:/[1-9][0-9]{{0,37}})?)"
+NUMBERS = f"(?: -?{NATURAL})*"
+PLAN = "((?: (?:-|[1-9][0-9]?))*)"
+PLACE = f"(?:{NATURAL}|first|second|phase) {NATURAL}"
+
+
+class _Lines:
+    """The lines of a report, taken one by one from the front of some bytes."""
+
+    def __init__(self, data):
+        self.data, self.at, self.number = data, 0, 0
+
+    def peek(self):
+        end = self.data.find(b"\n", self.at)
+        return None if end < 0 else self.data[self.at : end].decode("ascii", "replace")
+
+    def take(self, pattern, what):
+        """The groups of the next line, which has to be of this form."""
+        line = self.peek()
+        self.number += 1
+        match = re.fullmatch(pattern, line) if line is not None else None
+        if match is None:
+            raise Bad(f"line {self.number} of the report isn't {what}" if line is not None else f"the report ends before {what}, line {self.number}")
+        self.at += len(line) + 1
+        return match.groups()
+
+    def fraction(self, word):
+        value = Fraction(word)
+        if word != ("0" if value == 0 else str(value)):
+            raise Bad(f"line {self.number} of the report: {word} isn't in lowest terms")
+        return value
+
+
+def read_report(data):
+    """The report at the front of some bytes, and the bytes behind it."""
+    lines = _Lines(data)
+    first = lines.peek()
+    if first is not None and first.startswith(("refused ", "usage: ")):
+        raise Bad(f"no report: corr answered '{first}'")
+    lines.take("corr-report 1", "'corr-report 1'")
+    scales = tuple(map(int, lines.take(f"scale {POSITIVE} {POSITIVE}", "the scales")))
+    blocks = [_block(lines, -1)]
+    while lines.peek() != "end":
+        blocks.append(_block(lines, NOTIONS.index(blocks[-1].notion)))
+    lines.take("end", "'end'")
+    return Report(scales, blocks), data[lines.at :]
+
+
+def _block(lines, before):
+    notion, kind = lines.take("notion (efce|efcce|nfcce) (found|empty|toowide)", "the head of a notion's block or 'end'")
+    if NOTIONS.index(notion) <= before:
+        raise Bad(f"line {lines.number} of the report: {notion} stands twice or out of order")
+    corners = []
+    if kind == "empty":
+        lines.take(f"multipliers{NUMBERS}", "a line of multipliers")
+    elif kind == "toowide":
+        lines.take(f"basis{NUMBERS}", "a basis")
+        lines.take(f"at {PLACE}", "a place")
+    else:
+        count = int(lines.take(f"corners {POSITIVE}", "the number of corners")[0])
+        for k in range(count):
+            corners.append(_corner(lines, k))
+        for _ in range(int(lines.take(f"sides {POSITIVE}", "the number of sides")[0])):
+            _side(lines, count)
+    return Block(notion, kind, corners)
+
+
+def _corner(lines, k):
+    number, first, second, total, count = lines.take(
+        f"corner ({NATURAL}) {FRACTION} {FRACTION} total {POSITIVE} pairs {POSITIVE}", f"corner {k}"
+    )
+    if int(number) != k:
+        raise Bad(f"line {lines.number} of the report isn't corner {k}")
+    point = lines.fraction(first), lines.fraction(second)
+    pairs = []
+    for _ in range(int(count)):
+        pairs.append(_pair(lines))
+    return Corner(point, int(total), pairs)
+
+
+def _pair(lines):
+    weight = int(lines.take(f"weight {POSITIVE}", "a weight")[0])
+    plans = [lines.take(f"{name}{PLAN}", f"a plan of player {name}")[0] for name in ("one", "two")]
+    return Pair(weight, *([None if word == "-" else int(word) for word in plan.split()] for plan in plans))
+
+
+def _side(lines, corners):
+    corner = int(lines.take(f"side {INTEGER} {INTEGER} corner ({NATURAL}) den {POSITIVE}", "a side")[2])
+    if corner >= corners:
+        raise Bad(f"line {lines.number} of the report: there is no corner {corner}")
+    lines.take(f"first{NUMBERS}", "a side's first multipliers")
+    lines.take(f"second{NUMBERS}", "a side's second multipliers")
+
+
+# Game files
+
+Game = namedtuple("Game", "title players nodes sets")  # the sets of player 1 and of player 2, by the order of their first nodes
+Node = namedtuple("Node", "at kind name player number set_name actions")  # `at` is the node's first byte
+Set = namedtuple("Set", "number name actions node")
+
+WHITE = re.compile(rb"[\t-\r ]*")
+TOKEN = re.compile(rb'(?P<text>"(?:[^"]|(?<=\\)")*(?<!\\)")|(?P<mark>[{},])|(?P<word>[^\t-\r "{},]+)')
+WHOLE = re.compile(rb"[0-9]+")
+NUMBER = re.compile(rb"[+-]?(?:[0-9]+(?:\.[0-9]*)?|\.[0-9]+|[0-9]+/[0-9]*[1-9][0-9]*)")
+
+
+class _Tokens:
+    """The tokens of a game file: the kind and bytes of the next one, and where it begins."""
+
+    def __init__(self, data):
+        self.data = data
+        self.end = 0
+        self.step()
+
+    def step(self):
+        self.at = WHITE.match(self.data, self.end).end()
+        match = TOKEN.match(self.data, self.at)
+        self.kind, self.bytes = (match.lastgroup, match.group()) if match else (None, b"")
+        self.end = match.end() if match else self.at
+
+    def fail(self, what):
+        raise Bad(f"byte {self.at} of the game: {what} was to come")
+
+    def text(self, what="a text"):
+        if self.kind != "text":
+            self.fail(what)
+        content = self.bytes[1:-1].decode("utf-8", "replace").replace('\\"', '"')
+        self.step()
+        return content
+
+    def text_or_none(self):
+        return self.text() if self.kind == "text" else ""
+
+    def word(self, pattern, what):
+        if self.kind != "word" or not pattern.fullmatch(self.bytes):
+            self.fail(what)
+        word = self.bytes
+        self.step()
+        return word
+
+    def whole(self):
+        """The digits of a whole number, without zeros in front: it may have any number of them."""
+        return self.word(WHOLE, "a whole number").decode().lstrip("0") or "0"
+
+    def mark(self, mark):
+        """Whether the mark comes next; it is then passed."""
+        if self.bytes != mark:
+            return False
+        self.step()
+        return True
+
+    def needed(self, mark):
+        if not self.mark(mark):
+            self.fail(f"'{mark.decode()}'")
+
+
+def read_game(data):
+    """The names of a game file: title, players, nodes, and each player's sets."""
+    tokens = _Tokens(data)
+    for word in (b"EFG", b"2", b"R"):
+        tokens.word(re.compile(word), f"'{word.decode()}'")
+    title = tokens.text("the title")
+    tokens.needed(b"{")
+    players = []
+    while not tokens.mark(b"}"):
+        players.append(tokens.text("a player's name"))
+    tokens.text_or_none()
+    nodes = []
+    while tokens.at < len(data):
+        nodes.append(_node(tokens))
+    return Game(title, players, nodes, {side: _sets(nodes, side) for side in (1, 2)})
+
+
+def _node(tokens):
+    at = tokens.at
+    kind = tokens.word(re.compile(b"[cpt]"), "a node: c, p or t").decode()
+    name = tokens.text("the node's name")
+    player = tokens.whole() if kind == "p" else None
+    number, set_name, actions = None, "", []
+    if kind != "t":
+        number, set_name = tokens.whole(), tokens.text_or_none()
+        if tokens.mark(b"{"):
+            while not tokens.mark(b"}"):
+                actions.append(tokens.text("an action"))
+                if kind == "c":
+                    tokens.word(NUMBER, "a probability")
+    _outcome(tokens)
+    return Node(at, kind, name, player, number, set_name, actions)
+
+
+def _outcome(tokens):
+    tokens.whole()
+    tokens.text_or_none()
+    if tokens.mark(b"{"):
+        tokens.word(NUMBER, "a payoff")
+        while not tokens.mark(b"}"):
+            tokens.mark(b",")
+            tokens.word(NUMBER, "a payoff")
+
+
+def _sets(nodes, side):
+    sets = {}
+    for k, node in enumerate(nodes):
+        if node.player == str(side) and node.number not in sets:
+            sets[node.number] = Set(node.number, node.set_name or node.name, node.actions, k)
+    return list(sets.values())
+
+
+# The command line
+
+
+class Words(argparse.ArgumentParser):
+    """The words of a tool. Words that it doesn't know are refused with one line."""
+
+    def __init__(self, name, text, examples):
+        super().__init__(
+            prog=name, description=text, epilog=examples, allow_abbrev=False, formatter_class=argparse.RawDescriptionHelpFormatter
+        )
+        self.set_defaults(tool=name)
+
+    def error(self, message):
+        raise Bad(f"{message}; {self.prog} --help says more", BAD_WORDS)
+
+    def add_report(self, use):
+        self.add_argument("report", nargs="?", default="-", metavar="REPORT", help="the report; standard input where it is '-' or left out")
+        self.add_argument("--game", metavar="FILE", help=f"the game's file, {use}; it may also follow the report, as for corr check")
+
+    def add_notion(self):
+        self.add_argument("--notion", choices=NOTIONS, help="this notion's block alone")
+
+
+class _Input:
+    """Files and standard input, which can be read once."""
+
+    taken = False
+
+
+def read_bytes(path):
+    """What a file holds, or standard input where the path is '-'."""
+    if path == "-":
+        if _Input.taken:
+            raise Bad("standard input can be read only once: give one of the two as a file", BAD_WORDS)
+        _Input.taken = True
+    try:
+        if path == "-":
+            return sys.stdin.buffer.read()
+        with open(path, "rb") as file:
+            return file.read()
+    except OSError as fault:
+        raise Bad(f"{'standard input' if path == '-' else path}: {fault.strerror}", UNREADABLE) from None
+
+
+def read_inputs(options):
+    """The report, and the game that `--game` names or that follows the report; None where there is none."""
+    report, rest = read_report(read_bytes(options.report))
+    if options.game is not None:
+        rest = read_bytes(options.game)
+    elif not WHITE.sub(b"", rest):
+        return report, None
+    return report, read_game(rest)
+
+
+def chosen(report, notion):
+    """The blocks of a report, or that of one notion."""
+    blocks = [block for block in report.blocks if notion in (None, block.notion)]
+    if not blocks:
+        raise Bad(f"the report has no block of {notion}")
+    return blocks
+
+
+def player_names(game):
+    """What the two players are called: by the game, or player 1 and player 2."""
+    if game is None:
+        return "player 1", "player 2"
+    if len(game.players) != 2:
+        raise Bad(f"the game has {len(game.players)} players, not 2")
+    return tuple(name or f"player {k}" for k, name in enumerate(game.players, 1))
+
+
+def point_text(point):
+    return f"({point[0]}, {point[1]})"
+
+
+def plain(text):
+    """A name on one line: line ends and other control characters become spaces."""
+    return "".join(sign if sign.isprintable() else " " for sign in text)
+
+
+def run(body):
+    """Runs a tool; its body takes the tool's name and the list of words, and gives the text that it writes."""
+    for quiet in (signal.SIGINT, signal.SIGPIPE):
+        signal.signal(quiet, signal.SIG_DFL)
+    name = os.path.basename(sys.argv[0])
+    try:
+        text = body(name, sys.argv[1:])
+        sys.stdout.buffer.write(text.encode("utf-8", "replace"))
+        sys.stdout.buffer.flush()
+    except Bad as bad:
+        print(f"{name}: {plain(str(bad))}", file=sys.stderr)
+        sys.exit(bad.status)
+    except OSError as fault:
+        print(f"{name}: standard output: {fault.strerror}", file=sys.stderr, flush=True)
+        os._exit(UNWRITABLE)  # without the flush that would fail once more
