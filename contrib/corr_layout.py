@@ -2,13 +2,17 @@
 from fractions import Fraction
 from math import atan2, ceil, cos, floor, hypot, pi, sin
 
-PLOT = 600, 400  # the greatest width and height between the axes
+PLOT = 620, 400  # the greatest width and height between the axes
 LEAST = 220  # the least
-MARGIN = 84, 46  # between the polygons and the frame, for labels
+MARGIN = 98, 46  # between the polygons and the frame, for labels
 FLATTEST = 110  # polygons flatter than that get a scale for each axis
-LETTER = 0.6  # the width of a letter, as a part of the font's size
 TICK_SIZE, LABEL_SIZE = 14, 15
 WIDEST_LABEL = 330  # longer ones are set smaller: a picture can be enlarged, and a label is exact
+
+
+def width_of(text, size):
+    """About how wide a text is."""
+    return size * sum(0.38 if sign in " (),./-" else 0.64 if sign.isdigit() else 0.6 for sign in text)
 
 
 class Axis:
@@ -66,7 +70,7 @@ class Frame:
         spans = [max(of_one) - min(of_one) for of_one in values]
         self.axes = [Axis(of_one, unit, margin) for of_one, unit, margin in zip(values, units(spans, stretch), MARGIN)]
         self.ticks = [self._across(), self.axes[1].ticks(round(self.axes[1].length / 60))]
-        self.left = 44 + LETTER * TICK_SIZE * max(len(tick_text(v)) for v in self.ticks[1])
+        self.left = 44 + max(width_of(tick_text(v), TICK_SIZE) for v in self.ticks[1])
         self.top = top
         self.right, self.bottom = self.left + self.axes[0].length, self.top + self.axes[1].length
 
@@ -74,7 +78,7 @@ class Frame:
         """As many numbers as fit side by side."""
         for most in range(7, 1, -1):
             ticks = self.axes[0].ticks(most)
-            widest = LETTER * TICK_SIZE * max((len(tick_text(v)) for v in ticks), default=0) + 12
+            widest = max((width_of(tick_text(v), TICK_SIZE) for v in ticks), default=0) + 14
             if widest * len(ticks) <= self.axes[0].length:
                 break
         return ticks
@@ -111,8 +115,8 @@ class Labels:
     def place(self, text, point):
         x, y = self.frame.at(point)
         outward = self._outward(x, y)
-        size = min(LABEL_SIZE, WIDEST_LABEL / (LETTER * len(text)))
-        width, height = LETTER * size * len(text), size
+        size = min(LABEL_SIZE, WIDEST_LABEL / width_of(text, 1))
+        width, height = width_of(text, size), size
         choices = []
         for reach in (14, 24, 38, 56):
             for k in range(24):
@@ -136,7 +140,7 @@ class Labels:
         cost += 60 * (left < frame.left + 2 or right > frame.right - 2 or top < frame.top + 2 or bottom > frame.bottom - 2)
         cost += 50 * sum(_meet(box, other) for other in self.taken)
         cost += 20 * sum(left - 9 < x < right + 9 and top - 9 < y < bottom + 9 for x, y in self.marks)
-        return cost + 4 * sum(_crosses(box, edge) for edge in self.edges)
+        return cost + 4 * sum(_crosses((left, top - 2, right, bottom + 2), edge) for edge in self.edges)
 
 
 def _meet(one, two):
