@@ -7,6 +7,7 @@ LEAST = 220  # the least
 MARGIN = 98, 46  # between the polygons and the frame, for labels
 FLATTEST = 110  # polygons flatter than that get a scale for each axis
 TICK_SIZE, LABEL_SIZE = 14, 15
+CLEAR, NEAR = 12, 14  # kept free around each corner's mark; from a corner to its label
 WIDEST_LABEL = 330  # longer ones are set smaller: a picture can be enlarged, and a label is exact
 
 
@@ -118,12 +119,12 @@ class Labels:
         size = min(LABEL_SIZE, WIDEST_LABEL / width_of(text, 1))
         width, height = width_of(text, size), size
         choices = []
-        for reach in (14, 24, 38, 56):
+        for reach in (NEAR, NEAR + 9, NEAR + 22, NEAR + 40):
             for k in range(24):
                 direction = outward + k * pi / 12
                 left, top = x + cos(direction) * (reach + width / 2) - width / 2, y - sin(direction) * (reach + height / 2) - height / 2
                 box = left, top, left + width, top + height
-                choices.append((self._cost(box, outward - direction) + (reach - 14) / 8, len(choices), box, reach > 20))
+                choices.append((self._cost(box, outward - direction) + (reach - NEAR) / 8, len(choices), box, reach > NEAR))
         _, _, box, is_away = min(choices)
         self.taken.append(box)
         return Label(text, size, box, is_away)
@@ -139,7 +140,7 @@ class Labels:
         cost = 1 - cos(turned)
         cost += 60 * (left < frame.left + 2 or right > frame.right - 2 or top < frame.top + 2 or bottom > frame.bottom - 2)
         cost += 50 * sum(_meet(box, other) for other in self.taken)
-        cost += 20 * sum(left - 9 < x < right + 9 and top - 9 < y < bottom + 9 for x, y in self.marks)
+        cost += 20 * sum(left - CLEAR < x < right + CLEAR and top - CLEAR < y < bottom + CLEAR for x, y in self.marks)
         return cost + 4 * sum(_crosses((left, top - 2, right, bottom + 2), edge) for edge in self.edges)
 
 
