@@ -1,4 +1,5 @@
 mod Bounded
+mod Cutting
 mod Joined
 mod Marking
 mod Weighing

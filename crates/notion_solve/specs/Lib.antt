@@ -1,3 +1,3 @@
-pub mod Ends
 pub mod Outcome
+pub mod Programs
 pub mod WideBlock

@@ -1,11 +1,12 @@
--- What a run of pivots came to, with its numbers in range.
-use Rattle.std.specs.Prelude.{ℕ, All}
+-- What a run of pivots came to.
+use Rattle.std.specs.Prelude.{All}
 use Rattle.corr_num.specs.Narrow.{Narrow}
+use Rattle.lp_form.specs.Program.{LpView}
 use Rattle.polygon_sweep.specs.Swept.{IsSwept}
 use Rattle.notion_solve.specs.declared.blocks.Outcome.{Outcome}
 use Rattle.notion_solve.specs.declared.blocks.Outcome.TheVariants.{Polygon, Empty}
 
--- a polygon of a program with so many rows and columns, or narrow multipliers
-abbrev pub IsOutcome : ℕ → ℕ → Outcome → Type 0
-IsOutcome rows cols (Polygon swept) = IsSwept rows cols swept
-IsOutcome rows cols (Empty multipliers) = All Narrow multipliers
+-- a polygon of a program, or narrow multipliers
+abbrev pub IsOutcome : LpView → Outcome → Type 0
+IsOutcome lp (Polygon swept) = IsSwept lp swept
+IsOutcome lp (Empty multipliers) = All Narrow multipliers

@@ -5,11 +5,15 @@ ghost use Rattle.bland_simplex.specs.Open.{IsProgram};
 ghost use Rattle.int_tableau.specs.Content.{IsTableau};
 ghost use Rattle.int_tableau.specs.Start.{IsStart};
 ghost use Rattle.polygon_sweep.specs.Swept.{IsSwept};
+ghost use Rattle.lp_form.specs.Program.{LpView};
+ghost use Rattle.lp_form.specs.Solutions.{HasBoundedPayoffs};
+ghost use Rattle.triangle_test.specs.Triangle.{IsTriangle};
+ghost use Rattle.triangle_test.specs.declared.triangles.Quad.{Quad};
 ghost use Rattle.notion_solve.specs.Outcome.{IsOutcome};
+ghost use Rattle.notion_solve.specs.Programs.{IsOverRows};
 ghost use Rattle.report_form.specs.Ranges.{IsBlock};
 
 use crate::corners::corners_of;
-use crate::ends::SolveEnd;
 use crate::programs::program;
 use crate::wide::too_wide;
 use bland_simplex::{Found, feasible};
@@ -19,7 +23,7 @@ use int_tableau::{Dense, PivotEnd, Tableau};
 use lp_form::{Lp, NumList};
 use polygon_sweep::{Swept, sweep};
 use report_form::Block;
-use std::alloc::Global;
+use std::alloc::{AllocError as NoMemory, Global};
 
 /// What a run of pivots came to: a polygon, or multipliers that show that there is none.
 #[derive(Drop)]
@@ -33,7 +37,8 @@ fn explore<T: Tableau>(alloc: Global, lp: &Lp, table: &mut T) -> Result<Outcome,
     requires program { IsProgram lp.now }
     requires start { IsStart lp.now (T.content table.old) }
     requires rules { IsTableau (T.content table.old) }
-    ensures { IfOk result (IsOutcome (length lp.now.rows) lp.now.cols) }
+    requires bounded { HasBoundedPayoffs lp.now }
+    ensures { IfOk result (IsOutcome lp.now) }
 {
     match feasible(alloc, lp, table)? {
         Found::Start => Ok(Outcome::Polygon(sweep(alloc, lp, table)?)),
@@ -43,8 +48,9 @@ fn explore<T: Tableau>(alloc: Global, lp: &Lp, table: &mut T) -> Result<Outcome,
 
 /// The block of a notion for a game without a triangle: the polygon of its equilibria's payoffs, or that it has none, or
 /// the basis whose tableau is too wide.
-pub fn solve(alloc: Global, game: &Game, pairs: &Pairs, notion: Notion) -> Result<Block, SolveEnd>
+pub fn solve(alloc: Global, game: &Game, pairs: &Pairs, notion: Notion) -> Result<Block, NoMemory>
     requires whose { IsPairsOf game.now pairs.now }
+    requires no_triangle { (quad : Quad) → IsTriangle pairs.now quad → ⊥ }
     requires size { (rows columns : ℕ) × HasSize game.now pairs.now notion rows columns × (rows ≤ 2048) × (columns ≤ 8192) }
     ensures ranges { IfOk result IsBlock }
 {
@@ -53,17 +59,17 @@ pub fn solve(alloc: Global, game: &Game, pairs: &Pairs, notion: Notion) -> Resul
     match explore(alloc, &lp, &mut table) {
         Ok(Outcome::Polygon(swept)) => found(alloc, game, pairs, swept),
         Ok(Outcome::Empty(multipliers)) => Ok(Block::Empty { multipliers }),
-        Err(PivotEnd::Wide(place)) => Ok(too_wide(alloc, &table, place)?),
-        Err(PivotEnd::NoMemory) => Err(SolveEnd::NoMemory),
-        Err(PivotEnd::NotBuilt) => Err(SolveEnd::NotBuilt),
+        Err(PivotEnd::Wide(place)) => too_wide(alloc, &table, place),
+        Err(PivotEnd::NoMemory) => Err(NoMemory),
     }
 }
 
 /// The block of a polygon.
-fn found(alloc: Global, game: &Game, pairs: &Pairs, swept: Swept) -> Result<Block, SolveEnd>
+fn found(alloc: Global, game: &Game, pairs: &Pairs, swept: Swept) -> Result<Block, NoMemory>
     requires whose { IsPairsOf game.now pairs.now }
+    requires no_triangle { (quad : Quad) → IsTriangle pairs.now quad → ⊥ }
     requires few { length pairs.now.pairs ≤ 8192 }
-    requires swept { (rows cols : ℕ) × IsSwept rows cols swept × (length pairs.now.pairs ≤ cols) }
+    requires swept { (lp : LpView) × IsSwept lp swept × IsOverRows pairs.now lp }
     ensures { IfOk result IsBlock }
 {
     let Swept { corners, sides } = swept;

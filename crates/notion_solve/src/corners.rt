@@ -1,12 +1,15 @@
 // Corners with the pairs of plans that reach them.
-ghost use Rattle.std.specs.Prelude.{◌≡◌, ℕ, ◌^◌, ◌<◌, ◌≤◌, pos, ◌<ℤ◌, unsigned_abs, length, All, IfOk};
+ghost use Rattle.std.specs.Prelude.{◌≡◌, ℕ, ◌^◌, ◌<◌, ◌≤◌, pos, ◌<ℤ◌, unsigned_abs, length, take, All, IfOk};
 ghost use Rattle.connected_pairs.specs.Connected.{IsPairsOf};
 ghost use Rattle.corr_game.specs.Game.{IsGame};
 ghost use Rattle.corr_num.specs.Narrow.{Narrow};
 ghost use Rattle.polygon_sweep.specs.Swept.{IsCornerOf};
 ghost use Rattle.report_form.specs.Ranges.{IsCorner, IsScale};
+ghost use Rattle.lp_form.specs.Program.{LpView};
+ghost use Rattle.triangle_test.specs.Triangle.{IsTriangle};
+ghost use Rattle.triangle_test.specs.declared.triangles.Quad.{Quad};
+ghost use Rattle.notion_solve.specs.Programs.{IsOverRows};
 
-use crate::ends::SolveEnd;
 use connected_pairs::Pairs;
 use corr_game::{Game, Side};
 use corr_num::{Frac, product};
@@ -21,7 +24,7 @@ use std::alloc::{AllocError as NoMemory, Global};
 fn front(alloc: Global, list: &NumList, count: u32) -> Result<NumList, NoMemory>
     requires long { count ≤ length list.now }
     requires narrow { All Narrow list.now }
-    ensures count { IfOk result (λ part. length part ≡ count) }
+    ensures front { IfOk result (λ part. part ≡ take count list.now) }
     ensures narrow { IfOk result (λ part. All Narrow part) }
 {
     let mut part = NumList::with_capacity(alloc, count as usize)?;
@@ -52,7 +55,7 @@ fn scale_of(game: &Game, side: Side) -> i64
 
 /// The file's payoffs at a corner.
 fn point_of(game: &Game, corner: &SweptCorner) -> Point
-    requires { (cols : ℕ) × IsCornerOf cols corner.now }
+    requires { (lp : LpView) × IsCornerOf lp corner.now }
     ensures rules { IsGame game.now }
 {
     Point {
@@ -66,10 +69,11 @@ fn corner_of(
     game: &Game,
     pairs: &Pairs,
     corner: &SweptCorner,
-) -> Result<Corner, SolveEnd>
+) -> Result<Corner, NoMemory>
     requires whose { IsPairsOf game.now pairs.now }
+    requires no_triangle { (quad : Quad) → IsTriangle pairs.now quad → ⊥ }
     requires few { length pairs.now.pairs ≤ 8192 }
-    requires corner { (cols : ℕ) × IsCornerOf cols corner.now × (length pairs.now.pairs ≤ cols) }
+    requires corner { (lp : LpView) × IsCornerOf lp corner.now × IsOverRows pairs.now lp }
     ensures { IfOk result IsCorner }
 {
     let point = point_of(game, corner);
@@ -88,10 +92,11 @@ pub fn corners_of(
     game: &Game,
     pairs: &Pairs,
     swept: &CornerList,
-) -> Result<Corners, SolveEnd>
+) -> Result<Corners, NoMemory>
     requires whose { IsPairsOf game.now pairs.now }
+    requires no_triangle { (quad : Quad) → IsTriangle pairs.now quad → ⊥ }
     requires few { length pairs.now.pairs ≤ 8192 }
-    requires swept { (cols : ℕ) × All (IsCornerOf cols) swept.now × (length pairs.now.pairs ≤ cols) }
+    requires swept { (lp : LpView) × All (IsCornerOf lp) swept.now × IsOverRows pairs.now lp }
     ensures count { IfOk result (λ corners. length corners ≡ length swept.now) }
     ensures each { IfOk result (λ corners. All IsCorner corners) }
 {

@@ -7,9 +7,7 @@
 
 mod blocks;
 mod corners;
-mod ends;
 mod programs;
 mod wide;
 
 pub use blocks::solve;
-pub use ends::SolveEnd;

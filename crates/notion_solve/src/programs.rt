@@ -1,11 +1,10 @@
-ghost use Rattle.std.specs.Prelude.{◌≡◌, ◌≤◌, ◌<◌, ℕ, ℤ, List, pos, slice_index_or, length, IfOk};
-ghost use Rattle.lp_form.specs.Solutions.{HasBoundedPayoffs, IsSolution};
-ghost use Rattle.connected_pairs.specs.CorrelationRows.{MeetsRows, value_of};
-ghost use Rattle.corr_game.specs.declared.sides.Side.TheVariants.{One};
+ghost use Rattle.std.specs.Prelude.{◌≤◌, ℕ, IfOk};
+ghost use Rattle.lp_form.specs.Solutions.{HasBoundedPayoffs};
 ghost use Rattle.connected_pairs.specs.Connected.{IsPairsOf};
 ghost use Rattle.incentive_rows.specs.Size.{HasSize};
 ghost use Rattle.bland_simplex.specs.Open.{IsProgram};
 ghost use Rattle.int_tableau.specs.Start.{StartsNarrow};
+ghost use Rattle.notion_solve.specs.Programs.{IsOverRows};
 
 use connected_pairs::Pairs;
 use corr_game::{Game, Notion};
@@ -20,12 +19,9 @@ pub fn program(alloc: Global, game: &Game, pairs: &Pairs, notion: Notion) -> Res
     requires size { (rows columns : ℕ) × HasSize game.now pairs.now notion rows columns × (rows ≤ 2048) × (columns ≤ 8192) }
     ensures program { IfOk result (λ lp. IsProgram lp) }
     ensures narrow { IfOk result (λ lp. StartsNarrow lp) }
-    ensures pair_columns { IfOk result (λ lp. length pairs.now.pairs ≤ lp.cols) }
     ensures few_columns { IfOk result (λ lp. lp.cols ≤ 8192) }
     ensures bounded { IfOk result (λ lp. HasBoundedPayoffs lp) }
-    ensures meets { IfOk result (λ lp. (values : List ℤ) (total : ℤ) (x : ℕ → ℤ) → length values ≡ length pairs.now.pairs
-        → ((k : ℕ) → k < length pairs.now.pairs → slice_index_or values k (pos 0) ≡ x k) → IsSolution lp total x
-        → MeetsRows pairs.now values × (value_of pairs.now values One 0 0 ≡ total)) }
+    ensures over_rows { IfOk result (λ lp. IsOverRows pairs.now lp) }
 {
     let base = polytope(alloc, game, pairs)?;
     let more = incentives(alloc, game, pairs, notion)?;

@@ -5,6 +5,6 @@ use Rattle.notion_solve.proofs.blocks.found.Goals as goal
 
 pub returns : goal.returns
 returns c =
-    let swept = c.requires.swept.2 in
+    let swept = c.requires.swept.1 in
     let some : 1 ≤ length c.in_ok-corners_of.field-0 = omega (arith, c.in_ok-corners_of.ensures.count, swept.a_corner) in
     (some, swept.a_side, c.in_ok-corners_of.ensures.each, rw c.in_ok-corners_of.ensures.count (all_side_ranges _ _ c.args.swept.sides swept.sides))

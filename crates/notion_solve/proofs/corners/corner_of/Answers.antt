@@ -2,8 +2,14 @@
 use Rattle.std.proofs.Common.{◌≤◌, ◌≤ℤ◌, pos, length, arith}
 use Rattle.std.proofs.lemmas.Int.{ints}
 use Rattle.corr_num.proofs.PrintedTerms.{narrow_returned}
+use Rattle.notion_solve.proofs.Cutting.{cut_solution}
 use Rattle.notion_solve.proofs.Weighing.{entry_pairs}
 use Rattle.notion_solve.proofs.corners.corner_of.Goals as goal
+
+pub decompose-requires-clause-solution : goal.decompose-requires-clause-solution
+decompose-requires-clause-solution c =
+    let corner = c.requires.corner in
+    cut_solution c.args.pairs.now corner.0 c.args.corner.now c.in_ok-values.values corner.2 corner.1 (rw c.len.ensures.count at c.in_ok-values.ensures.front) c.requires.no_triangle
 
 pub returns : goal.returns
 returns c =

@@ -1,7 +1,7 @@
--- As many numbers as were passed, each narrow.
-use Rattle.std.proofs.Common.{◌≡◌, length, All}
+-- The numbers gone over, each narrow.
+use Rattle.std.proofs.Common.{◌≡◌, take, All}
 use Rattle.corr_num.specs.Narrow.{Narrow}
 use Rattle.notion_solve.proofs.corners.front.Given as goal
 
 abbrev pub invariant-loop-k : goal.invariant-loop-k
-invariant-loop-k l = (length l.part ≡ l.k) × All Narrow l.part
+invariant-loop-k l = (l.part ≡ take l.k l.list) × All Narrow l.part

@@ -1,5 +1,5 @@
 -- The correlation rows are of units and the incentive rows of amounts, so that no sum of a column is wide.
-use Rattle.std.proofs.Common.{arith}
+use Rattle.std.proofs.Common.{arith, rules}
 use Rattle.lp_form.proofs.Solving.{solution_alike}
 use Rattle.notion_solve.proofs.Bounded.{starts_narrow}
 use Rattle.notion_solve.proofs.Joined.{is_program}
@@ -16,7 +16,9 @@ returns-clause-narrow c =
 pub returns-clause-bounded : goal.returns-clause-bounded
 returns-clause-bounded c = c.in_ok-lp.ensures.bounded c.in_ok-base.ensures.bounded
 
-pub returns-clause-meets : goal.returns-clause-meets
-returns-clause-meets c = λ values total x count same s.
-    c.in_ok-base.ensures.meets values total count
-    (solution_alike c.in_ok-base.base total x _ (λ k low. same k (omega (arith, low, c.in_ok-base.ensures.columns))) (c.in_ok-lp.ensures.solutions total x s))
+pub returns-clause-over_rows : goal.returns-clause-over_rows
+returns-clause-over_rows c = record {
+  columns = search rules;
+  meets = λ values total x count same s. c.in_ok-base.ensures.meets values total count
+      (solution_alike c.in_ok-base.base total x _ (λ k low. same k (omega (arith, low, c.in_ok-base.ensures.columns))) (c.in_ok-lp.ensures.solutions total x s));
+}
