@@ -3,6 +3,8 @@ ghost use Rattle.std.specs.Prelude.{◌≡◌, ◌≤◌, ◌^◌, ◌++◌, ◌
 ghost use Rattle.either.specs.Either.{MatchEither};
 ghost use Rattle.corr_game.specs.declared.notions.Notion.TheVariants.{Efce, Efcce, Nfcce};
 ghost use Rattle.connected_pairs.specs.Connected.{IsPairsOf};
+ghost use Rattle.triangle_test.specs.Triangle.{IsTriangle};
+ghost use Rattle.triangle_test.specs.declared.triangles.Quad.{Quad};
 ghost use Rattle.report_form.specs.Ranges.{IsBlock, IsReport};
 ghost use Rattle.corr_run.specs.Refusals.{IsOfInput};
 ghost use Rattle.corr_run.specs.Reports.{FitsProgram, FitPrograms, AreBlocksOf, AreWhole, notions_of};
@@ -14,7 +16,7 @@ use connected_pairs::Pairs;
 use corr_game::{Game, Notion, Side};
 use either::{Either, Left, Right};
 use incentive_rows::program_size;
-use notion_solve::{SolveEnd, solve};
+use notion_solve::solve;
 use report_form::{BlockList, NamedBlock, Refusal, Report};
 use std::alloc::{AllocError as NoMemory, Global};
 
@@ -65,8 +67,9 @@ fn add_block(
     is_selected: bool,
     notion: Notion,
     blocks: &mut BlockList,
-) -> Result<(), SolveEnd>
+) -> Result<(), NoMemory>
     requires whose { IsPairsOf ready.now.game ready.now.pairs }
+    requires no_triangle { (quad : Quad) → IsTriangle ready.now.pairs quad → ⊥ }
     requires size { is_selected ≡ true → FitsProgram ready.now.game ready.now.pairs notion }
     requires before { AreWhole blocks.old }
     ensures whole { OnOk result (AreWhole blocks.new) }
@@ -81,8 +84,9 @@ fn add_block(
 }
 
 /// The blocks of the selected notions, in order.
-fn blocks_of(alloc: Global, ready: &Ready, notions: Notions) -> Result<BlockList, SolveEnd>
+fn blocks_of(alloc: Global, ready: &Ready, notions: Notions) -> Result<BlockList, NoMemory>
     requires whose { IsPairsOf ready.now.game ready.now.pairs }
+    requires no_triangle { (quad : Quad) → IsTriangle ready.now.pairs quad → ⊥ }
     requires sizes { FitPrograms ready.now.game ready.now.pairs notions }
     ensures whole { IfOk result (λ blocks. AreWhole blocks) }
     ensures notions { IfOk result (λ blocks. notions_of blocks ≡ selected notions) }
@@ -121,9 +125,6 @@ pub fn solve_file(
     if let Some(refusal) = first_size_refusal(&ready.game, &ready.pairs, notions) {
         return Ok(Left(refusal));
     }
-    match blocks_of(alloc, &ready, notions) {
-        Ok(blocks) => Ok(Right(report_of(&ready.game, blocks))),
-        Err(SolveEnd::NotBuilt) => Ok(Left(Refusal::NotBuilt)),
-        Err(SolveEnd::NoMemory) => Err(NoMemory),
-    }
+    let blocks = blocks_of(alloc, &ready, notions)?;
+    Ok(Right(report_of(&ready.game, blocks)))
 }

@@ -67,7 +67,4 @@ pub enum Refusal {
     TooLarge {
         greatest: u32,
     },
-    /// Interim: a loop of the solver has used up its turns, or a walk has stopped. It goes with the proofs that this
-    /// never happens.
-    NotBuilt,
 }

@@ -1,7 +1,7 @@
 -- The line of a refusal.
 use Rattle.std.specs.Prelude.{ℕ, List, ◌++◌, codes}
 use Rattle.report_form.specs.declared.refusals.Refusal.{Refusal}
-use Rattle.report_form.specs.declared.refusals.Refusal.TheVariants.{InputTooLong, Report, Syntax, Players, AtNode, ScaleTooLarge, Forgets, Triangle, Size, TooLarge, NotBuilt}
+use Rattle.report_form.specs.declared.refusals.Refusal.TheVariants.{InputTooLong, Report, Syntax, Players, AtNode, ScaleTooLarge, Forgets, Triangle, Size, TooLarge}
 use Rattle.report_text.specs.NameText.{notion_name, player_name, rule_name}
 use Rattle.report_text.specs.PartText.{count_text}
 
@@ -18,7 +18,6 @@ cause_text (Forgets side set first second) = codes "Forgets player " ++ player_n
 cause_text (Triangle one_a one_b two_a two_b) = codes "Triangle sets" ++ count_text one_a ++ count_text one_b ++ count_text two_a ++ count_text two_b
 cause_text (Size notion rows columns) = codes "Size " ++ notion_name notion ++ codes " rows" ++ count_text rows ++ codes " columns" ++ count_text columns
 cause_text (TooLarge greatest) = codes "TooLarge n" ++ count_text greatest
-cause_text NotBuilt = codes "NotBuilt"
 
 unfoldable pub refusal_text : Refusal → List ℕ
 refusal_text refusal = codes "refused " ++ cause_text refusal ++ codes "\n"

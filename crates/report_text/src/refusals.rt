@@ -114,7 +114,6 @@ fn add_cause(out: &mut Vec<u8>, refusal: &Refusal) -> Result<(), NoMemory>
             columns,
         } => add_size(out, notion, rows, columns),
         Refusal::TooLarge { greatest } => add_counted(out, b"TooLarge n", u64::from(greatest)),
-        Refusal::NotBuilt => add_bytes(out, b"NotBuilt"),
     }
 }
 

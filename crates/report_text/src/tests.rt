@@ -98,7 +98,7 @@ fn a_line_of_each_shape(rt: HostRuntime) -> Result<(), Fail> {
         columns: 8192,
     };
     let scale = Refusal::ScaleTooLarge { side: Side::Two };
-    let table: [(Refusal, &[u8]); 11] = [
+    let table: [(Refusal, &[u8]); 10] = [
         (
             Refusal::InputTooLong { limit: 4194304 },
             b"refused InputTooLong 4194304\n",
@@ -115,7 +115,6 @@ fn a_line_of_each_shape(rt: HostRuntime) -> Result<(), Fail> {
             Refusal::TooLarge { greatest: 30 },
             b"refused TooLarge n 30\n",
         ),
-        (Refusal::NotBuilt, b"refused NotBuilt\n"),
     ];
     for (refusal, line) in table.iter() {
         assert_eq!(rt; write_refusal(rt.alloc(), refusal)?.as_slice(), *line);
