@@ -3,12 +3,11 @@ use Rattle.std.proofs.Common.{◌≡◌, ◌≢◌, ⊎_elim, ◌+◌, pos, ◌�
 use Rattle.std.proofs.lemmas.Bool.{cases_eq}
 use Rattle.std.proofs.lemmas.Int.{ints}
 use lib.Signed.{≤ℤ_refl}
-use Rattle.lp_form.specs.Program.{LpView, right_of}
+use Rattle.lp_form.specs.Program.{IsProgram, LpView, right_of}
 use Rattle.int_tableau.proofs.Starting.{start_reached}
 use Rattle.int_tableau.specs.Content.{Content, IsTableau}
 use Rattle.int_tableau.specs.Start.{IsStart}
 use Rattle.bland_simplex.proofs.StartEntries.{entry_right}
-use Rattle.bland_simplex.specs.Open.{IsProgram}
 use Rattle.bland_simplex.specs.Ready.{IsUnderWay}
 
 pub way_of_start : (lp : LpView) (t : Content) → IsProgram lp → IsStart lp t → IsTableau t → IsUnderWay lp t

@@ -16,16 +16,16 @@ use Rattle.exact_linear.proofs.Multipliers.{phase_multipliers}
 use Rattle.exact_linear.proofs.Phase.{phase_row}
 use Rattle.exact_linear.proofs.Solutions.{basic_solution}
 use Rattle.exact_linear.specs.Simplex.{basic_value}
-use Rattle.lp_form.specs.Program.{LpView, coefficient}
+use Rattle.lp_form.specs.Program.{IsProgram, LpView, coefficient}
+use Rattle.lp_form.specs.Certificates.{ShowEmpty, times_column}
+use Rattle.lp_form.specs.Solutions.{HasSolution}
 use Rattle.int_tableau.specs.Content.{Content}
 use Rattle.int_tableau.specs.Start.{start_entry}
 use Rattle.bland_simplex.proofs.Lowering.{weight_over}
 use Rattle.bland_simplex.proofs.StartEntries.{phase_weight, phase_artificial, weight_program, weight_right, entry_program, entry_right, entry_own, entry_apart}
 use Rattle.bland_simplex.proofs.TurnSteps.{solution_of}
 use Rattle.bland_simplex.proofs.Wholes.{width, side, whole_of}
-use Rattle.bland_simplex.specs.Answer.{HasSolution}
-use Rattle.bland_simplex.specs.Multipliers.{IsStuck, AreMultipliers, ShowEmpty, times_column}
-use Rattle.bland_simplex.specs.Open.{IsProgram}
+use Rattle.bland_simplex.specs.Multipliers.{IsStuck, AreMultipliers, HasNarrowColumns}
 use Rattle.bland_simplex.specs.Ready.{IsUnderWay, IsReady}
 
 opposite_of : (a b : ℤ) → a +ℤ b ≡ pos 0 → a ≡ neg_ℤ b
@@ -89,14 +89,18 @@ module _ (lp : LpView) where
         above = (let low = phase_negative in let is = first_is in rw is (omega (arith, ints)));
         not_above = λ col l. (let is = made_of_program col l in let over = stuck.not_negative col (omega arith) in rw is
             (omega (arith, ints)));
-        narrow = are.narrow;
-        narrow_columns = λ col l. (let is = made_of_program col l in let small = way.open.rules.narrow way.open.fresh (length lp.rows + 2)
-            col (omega (arith, way.open.rows_are)) (omega (arith, way.open.cols_are)) in rw is
-            (turned (t.entry (length lp.rows + 2) col) small));
       }
-        where
-          turned : (a : ℤ) → Narrow a → Narrow (neg_ℤ a)
-          turned a small = omega (arith, ints)
+
+    -- It is narrow, since that entry is.
+    pub stuck_narrow : HasNarrowColumns lp y
+    stuck_narrow col l =
+        let is = made_of_program col l in
+        let small = way.open.rules.narrow way.open.fresh (length lp.rows + 2) col (omega (arith, way.open.rows_are))
+        (omega (arith, way.open.cols_are)) in
+        rw is (turned (t.entry (length lp.rows + 2) col) small)
+      where
+        turned : (a : ℤ) → Narrow a → Narrow (neg_ℤ a)
+        turned a small = omega (arith, ints)
 
   -- Such multipliers leave no room for a solution.
   pub shown_empty : IsProgram lp → (y : List ℤ) → ShowEmpty lp y → HasSolution lp → ⊥

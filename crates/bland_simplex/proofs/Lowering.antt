@@ -20,7 +20,7 @@ use Rattle.exact_linear.specs.Content as linear_content
 use Rattle.exact_linear.specs.Pivot.{pivot_row}
 use Rattle.exact_linear.specs.Tableau.{column}
 use Rattle.lp_form.specs.Program.{LpView}
-use Rattle.int_tableau.specs.Content.{Content, IsTableau}
+use Rattle.int_tableau.specs.Content.{Content, IsTableau, right_side}
 use Rattle.int_tableau.specs.Pivot.{IsPivoted}
 use Rattle.int_tableau.specs.Start.{start_entry}
 use Rattle.bland_simplex.proofs.Counting.{count_behind, count_falls}
@@ -110,6 +110,12 @@ module _ (lp : LpView) where
     where
       cost_is : (a b : ℤ) → a +ℤ b ≡ pos 0 → a ≡ neg_ℤ b
       cost_is a b none = omega (arith, ints)
+
+  -- The right side of such a row, as a pivot asks for it.
+  pub right_side_level : (t : Content) (row col : ℕ) → IsLowered lp t → DrivesOut t (length lp.rows) lp.cols row col → right_side t row ≡ pos 0
+  right_side_level t row col lowered drives =
+      let last : t.cols - 1 ≡ side lp = (let o = lowered.way.open in omega (arith, o.cols_are)) in
+      ap (λ (k : ℕ). t.entry row k) last ∙ level_row t lowered row drives.in_rows drives.artificial
 
   pub ready_of : (t : Content) → IsLowered lp t → IsDriven t (length lp.rows) lp.cols → IsReady lp t
   ready_of t lowered driven = record {

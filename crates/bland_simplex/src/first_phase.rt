@@ -1,8 +1,9 @@
 ghost use Rattle.std.specs.Prelude.{◌≡◌, ◌+◌, IfOk, IfErr, OnOk, length, true, false};
+ghost use Rattle.lp_form.specs.Program.{IsProgram};
 ghost use Rattle.int_tableau.specs.declared.ends.PivotEnd.TheVariants.{NoMemory};
 ghost use Rattle.int_tableau.specs.Start.{IsStart};
 ghost use Rattle.int_tableau.specs.Content.{IsTableau};
-ghost use Rattle.bland_simplex.specs.Open.{IsOpen, IsProgram};
+ghost use Rattle.bland_simplex.specs.Open.{IsOpen};
 ghost use Rattle.bland_simplex.specs.Order.{AreNone, FindsFirst};
 ghost use Rattle.bland_simplex.specs.Ready.{IsUnderWay, IsLowered};
 ghost use Rattle.bland_simplex.specs.Multipliers.{IsStuck, AreMultipliers};

@@ -1,6 +1,6 @@
 ghost use Rattle.std.specs.Prelude.{◌≡◌, ◌<◌, length, IfOk};
 ghost use Rattle.lp_form.specs.Solutions.{HasBoundedPayoffs};
-ghost use Rattle.bland_simplex.specs.Open.{IsProgram};
+ghost use Rattle.lp_form.specs.Program.{IsProgram};
 
 use crate::{Dir, Found, best, feasible};
 use corr_game::Side;

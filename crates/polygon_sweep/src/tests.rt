@@ -1,5 +1,5 @@
 ghost use Rattle.std.specs.Prelude.{◌≡◌, ◌<◌, ◌+◌, pos, length, IfOk, IfSome};
-ghost use Rattle.bland_simplex.specs.Open.{IsProgram};
+ghost use Rattle.lp_form.specs.Program.{IsProgram};
 ghost use Rattle.lp_form.specs.Solutions.{HasBoundedPayoffs};
 
 use crate::{Swept, sweep};

@@ -1,12 +1,18 @@
 -- A turn keeps Phase's right side at 0, and an artificial column less is basic.
 use Rattle.std.proofs.Common.{inr}
 use Rattle.bland_simplex.proofs.Runs.{pivot_ends, error_named}
-use Rattle.bland_simplex.proofs.Lowering.{lowered_after, driving_falls, ready_of}
+use Rattle.bland_simplex.proofs.Lowering.{lowered_after, driving_falls, ready_of, right_side_level}
 use Rattle.bland_simplex.specs.Steps.{StepsEnd, IsFirstStep, stays, goes}
 use Rattle.bland_simplex.proofs.driving.drive_out.Goals as goal
 
 pub loop-least-init : goal.loop-least-init
 loop-least-init g c = (c.requires, stays)
+
+pub pivot-requires-clause-level : goal.pivot-requires-clause-level
+pivot-requires-clause-level g c =
+    let drives = rw (c.of-shape.ensures.rows, c.of-shape.ensures.cols) at c.in-Some.ensures in
+    λ negative. right_side_level c.args.lp.now (g.T.Tableau.content c.loop-least.table) c.in-Some.least.row c.in-Some.least.col
+    c.loop-least.invariant.0 drives
 
 pub loop-least-smaller : goal.loop-least-smaller
 loop-least-smaller g c =

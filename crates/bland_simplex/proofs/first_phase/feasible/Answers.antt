@@ -1,5 +1,5 @@
 -- The start is a tableau of its own, and feasible.
-use Rattle.bland_simplex.proofs.Emptiness.{stuck_shows, shown_empty, ready_solution}
+use Rattle.bland_simplex.proofs.Emptiness.{stuck_shows, stuck_narrow, shown_empty, ready_solution}
 use Rattle.bland_simplex.proofs.Runs.{leads_on, ends_on, short_ends, error_named}
 use Rattle.bland_simplex.proofs.Beginning.{way_of_start}
 use Rattle.int_tableau.specs.declared.ends.PivotEnd.TheVariants.{NoMemory}
@@ -39,6 +39,7 @@ returns-in_ok-multipliers-clause-found g c =
       are,
       stuck_shows c.args.lp.now (g.T.Tableau.content c.lower_phase.new.table)
           c.in_ok-lower_phase.ensures.way _ are c.requires.program stuck,
+      stuck_narrow c.args.lp.now (g.T.Tableau.content c.lower_phase.new.table) c.in_ok-lower_phase.ensures.way _ are,
     )
 
 pub returns-in_ok-multipliers-clause-exactly : goal.returns-in_ok-multipliers-clause-exactly
