@@ -1,26 +1,14 @@
--- The rows and right sides of two programs, one behind the other.
+-- The right sides of two programs, one behind the other, and how many rows a notion's program has.
 use Rattle.std.proofs.Common.{◌≡◌, ℕ, ◌+◌, ◌-◌, ◌^◌, ◌<◌, ◌≤◌, List, [], ◌∷◌, length, ℤ, pos, unsigned_abs, inl, inr, ap, sym, ◌∙◌, refl, arith}
 use Rattle.std.proofs.lemmas.Bool.{cases_lt}
 use Rattle.std.proofs.lemmas.Int.{ints}
 use Rattle.std.proofs.lemmas.List.{get_or_append_left, get_or-append_right, length-append}
-use Rattle.lp_form.specs.Row.{value_at}
-use Rattle.lp_form.specs.Program.{LpView, coefficient, right_of, joined}
-use Rattle.bland_simplex.specs.Open.{IsProgram}
-use Rattle.incentive_rows.specs.Bounds.{IsWithin}
-use Rattle.plan_polytope.specs.Bounds.{AreUnits}
-
-pub before : (base more : LpView) (r k : ℕ) → r < length base.rows → coefficient (joined base more) r k ≡ coefficient base r k
-before base more r k h = ap (λ entries. value_at entries k) (get_or_append_left base.rows more.rows [] r h)
-
-pub behind : (base more : LpView) (r k : ℕ) → length base.rows ≤ r → coefficient (joined base more) r k ≡ coefficient more (r - length base.rows) k
-behind base more r k h = ap (λ entries. value_at entries k) (get_or-append_right base.rows more.rows (length base.rows) r [] refl h)
-
-pub coefficients_within : (base more : LpView) → AreUnits base → IsWithin (2 ^ 42) more → (r k : ℕ) → unsigned_abs (coefficient (joined base more) r k) ≤ 2 ^ 42
-coefficients_within base more units within r k =
-    elim (cases_lt r (length base.rows)) [
-      | inl h ↦ rw (before base more r k h) (omega (arith, units r k))
-      | inr h ↦ rw (behind base more r k h) (within (r - length base.rows) k)
-    ]
+use Rattle.corr_game.specs.declared.notions.Notion.{Notion}
+use Rattle.corr_game.specs.Game.{GameView}
+use Rattle.connected_pairs.specs.Connected.{PairsView}
+use Rattle.incentive_rows.specs.Size.{HasIncentives, HasSize}
+use Rattle.plan_polytope.specs.RowCount.{HasBothCounts}
+use Rattle.lp_form.specs.Program.{IsProgram, LpView, right_of, joined}
 
 right_before : (base more : LpView) (r : ℕ) → r < length base.rights → right_of (joined base more) r ≡ right_of base r
 right_before base more r h = get_or_append_left base.rights more.rights (pos 0) r h
@@ -49,3 +37,12 @@ is_program base more some one zeros nothing = record {
   one = first_right base more one;
   zeros = later_right base more zeros nothing;
 }
+
+-- a notion's program has as many rows as its size says
+pub as_many_rows : (g : GameView) (p : PairsView) (notion : Notion) (base more : LpView) (rows columns : ℕ) → HasSize g p notion rows columns
+    → ((count : ℕ) → HasBothCounts g p count → length base.rows ≡ count + 1)
+    → ((count values : ℕ) → HasIncentives g p notion count values → length more.rows ≡ count) → length (joined base more).rows ≡ rows
+as_many_rows g p notion base more rows columns size of_base of_more =
+    let first = of_base (size.before_one + size.before_two) (size.before_one, size.before_two, size.at_one, size.at_two, refl) in
+    let second = of_more size.incentives size.values size.behind in
+    omega (arith, first, second, size.all_rows, length-append base.rows more.rows)

@@ -1,4 +1,3 @@
-mod Bounded
 mod Cutting
 mod Joined
 mod Marking

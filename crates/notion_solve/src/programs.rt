@@ -1,8 +1,8 @@
-ghost use Rattle.std.specs.Prelude.{◌≤◌, ℕ, IfOk};
+ghost use Rattle.std.specs.Prelude.{◌≤◌, ℕ, length, IfOk};
 ghost use Rattle.lp_form.specs.Solutions.{HasBoundedPayoffs};
 ghost use Rattle.connected_pairs.specs.Connected.{IsPairsOf};
 ghost use Rattle.incentive_rows.specs.Size.{HasSize};
-ghost use Rattle.bland_simplex.specs.Open.{IsProgram};
+ghost use Rattle.lp_form.specs.Program.{IsProgram};
 ghost use Rattle.int_tableau.specs.Start.{StartsNarrow};
 ghost use Rattle.notion_solve.specs.Programs.{IsOverRows};
 
@@ -19,6 +19,7 @@ pub fn program(alloc: Global, game: &Game, pairs: &Pairs, notion: Notion) -> Res
     requires size { (rows columns : ℕ) × HasSize game.now pairs.now notion rows columns × (rows ≤ 2048) × (columns ≤ 8192) }
     ensures program { IfOk result (λ lp. IsProgram lp) }
     ensures narrow { IfOk result (λ lp. StartsNarrow lp) }
+    ensures few_rows { IfOk result (λ lp. length lp.rows ≤ 2048) }
     ensures few_columns { IfOk result (λ lp. lp.cols ≤ 8192) }
     ensures bounded { IfOk result (λ lp. HasBoundedPayoffs lp) }
     ensures over_rows { IfOk result (λ lp. IsOverRows pairs.now lp) }

@@ -1,17 +1,25 @@
--- The correlation rows are of units and the incentive rows of amounts, so that no sum of a column is wide.
+-- Both parts are small, and both have as many rows together as the size says.
 use Rattle.std.proofs.Common.{arith, rules}
 use Rattle.lp_form.proofs.Solving.{solution_alike}
-use Rattle.notion_solve.proofs.Bounded.{starts_narrow}
-use Rattle.notion_solve.proofs.Joined.{is_program}
+use Rattle.int_tableau.proofs.Narrowness.{small_starts_narrow}
+use Rattle.notion_solve.proofs.Joined.{as_many_rows, is_program}
 use Rattle.notion_solve.proofs.programs.program.Goals as goal
 
 pub returns-clause-program : goal.returns-clause-program
 returns-clause-program c =
     rw c.in_ok-lp.ensures.both (is_program c.in_ok-base.base c.in_ok-more.more c.in_ok-base.ensures.a_row c.in_ok-base.ensures.total c.in_ok-base.ensures.other_rights c.in_ok-more.ensures.rights)
 
+pub returns-clause-few_rows : goal.returns-clause-few_rows
+returns-clause-few_rows c =
+    let size = c.requires.size in
+    let rows = as_many_rows c.args.game.now c.args.pairs.now c.args.notion c.in_ok-base.base c.in_ok-more.more size.0 size.1 size.2
+    c.in_ok-base.ensures.rows c.in_ok-more.ensures.rows in
+    rw c.in_ok-lp.ensures.both (omega (arith, rows, size.3))
+
 pub returns-clause-narrow : goal.returns-clause-narrow
 returns-clause-narrow c =
-    rw c.in_ok-lp.ensures.both (starts_narrow c.in_ok-base.base c.in_ok-more.more (omega (arith, c.in_ok-base.ensures.few_rows)) c.in_ok-more.ensures.few_rows c.in_ok-base.ensures.units c.in_ok-more.ensures.bounded c.in_ok-base.ensures.amounts c.in_ok-base.ensures.total c.in_ok-base.ensures.other_rights c.in_ok-more.ensures.rights)
+    small_starts_narrow c.in_ok-lp.lp (c.in_ok-lp.ensures.small c.in_ok-base.ensures.small c.in_ok-more.ensures.small)
+    (returns-clause-few_rows c)
 
 pub returns-clause-bounded : goal.returns-clause-bounded
 returns-clause-bounded c = c.in_ok-lp.ensures.bounded c.in_ok-base.ensures.bounded
