@@ -4,8 +4,8 @@ use Rattle.corr_run.proofs.Ordering.{in_order, some_block}
 use Rattle.corr_run.proofs.Scales.{scale_kept}
 use Rattle.corr_run.proofs.solving.report_of.Goals as goal
 
-pub returns-clause-ranges : goal.returns-clause-ranges
-returns-clause-ranges c =
+pub of-requires : goal.of-requires
+of-requires c =
     let rules = c.scale.ensures.rules in
     let selected = c.requires.selected in
     record {
