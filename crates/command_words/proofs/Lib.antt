@@ -1,3 +1,4 @@
+pub mod Askable
 pub mod Given
 pub mod Meaning
 pub mod Names

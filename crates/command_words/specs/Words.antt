@@ -1,5 +1,5 @@
 -- Which words on the command line mean a command: a word for what is to be done, then the options that it needs or may have.
-use Rattle.std.specs.Prelude.{◌≡◌, ℕ, List, [], ◌∷◌, Option, Some, None, unwrap_or, codes}
+use Rattle.std.specs.Prelude.{◌≡◌, ℕ, ◌≤◌, List, [], ◌∷◌, Option, Some, None, unwrap_or, codes}
 use Rattle.corr_game.specs.declared.notions.Notion.{Notion}
 use Rattle.game_gen.specs.declared.kinds.Kind.{Kind}
 use Rattle.command_words.specs.declared.commands.Command.{Command}
@@ -9,7 +9,7 @@ use Rattle.command_words.specs.declared.options.Given.{Given}
 use Rattle.command_words.specs.declared.words.Verb.{Verb}
 use Rattle.command_words.specs.declared.words.Verb.TheVariants.{Solve, Check, Gen, Work}
 use Rattle.command_words.specs.Options.{Give, none_given}
-use Rattle.command_words.specs.Selection.{all_notions, only_notion}
+use Rattle.command_words.specs.Selection.{SelectsSome, all_notions, only_notion}
 
 unfoldable pub verb_word : Verb → List ℕ
 verb_word Solve = codes "solve"
@@ -40,3 +40,10 @@ Means (first ∷ rest) asked = (verb : Verb) × (given : Given) × (first ≡ ve
 -- the words mean no command
 abbrev pub MeansNothing : List (List ℕ) → Type 0
 MeansNothing words = (asked : Command) → Means words asked → ⊥
+
+-- what holds of each command that some words mean: some notion is selected, and a size is 1 or more
+abbrev pub IsAskable : Command → Type 0
+IsAskable (command.Solve notions) = SelectsSome notions
+IsAskable command.Check = Unit {0}
+IsAskable (command.Gen kind n seed) = 1 ≤ n
+IsAskable (command.Work kind n seed notions) = (1 ≤ n) × SelectsSome notions

@@ -4,10 +4,12 @@ use Rattle.std.proofs.lemmas.Bool.{cases_lt}
 use Rattle.std.specs.declared.option.Option.{Option}
 use Rattle.std.proofs.KnownBytes.{Keeps-refl}
 use Rattle.std.specs.Io.KnownBytes.{Consumes, IsAtEnd}
-use Rattle.corr_run.specs.declared.commands.Notions.{Notions}
+use Rattle.command_words.specs.declared.commands.Notions.{Notions}
 use Rattle.corr_run.specs.declared.status.Status.{Status}
 use Rattle.corr_run.specs.declared.status.Status.TheVariants.{ReadFault, NoMemory}
-use Rattle.corr_run.specs.Answer.{SolveAnswer, too_long, one_node, refused, reported}
+use Rattle.corr_run.specs.CheckAnswer.{CheckAnswer}
+use Rattle.corr_run.specs.CheckAnswer as checked
+use Rattle.corr_run.specs.SolveAnswer.{SolveAnswer, too_long, one_node, refused, reported}
 use Rattle.corr_run.specs.Ending.{Ending, written, unread, no_memory, IsKnown, Ends, Writes}
 
 -- what a source had left is what it gave and what it has left now, where it tells
@@ -77,3 +79,13 @@ too_long_still long longer (too_long h is_text is_status) = too_long longer is_t
 too_long_still long longer (one_node h pay form is_text is_status) = absurd (omega arith)
 too_long_still long longer (refused general refusal of_input is_text is_status) = absurd (omega (arith, general.short))
 too_long_still long longer (reported general report ranges blocks is_text has_status) = absurd (omega (arith, general.short))
+
+pub report_too_long_still : {bytes input text : List ℕ} {kind : Status} → 2 ^ 30 < length bytes → 2 ^ 30 < length input → CheckAnswer bytes text kind → CheckAnswer input text kind
+report_too_long_still long longer (checked.too_long h is_text is_status) = checked.too_long longer is_text is_status
+report_too_long_still long longer (checked.no_report h at within is_text is_status) = absurd (omega arith)
+report_too_long_still long longer (checked.refused h refusal of_input is_text is_status) = absurd (omega arith)
+report_too_long_still long longer (checked.judged h report ranges g p held given is_verdict is_text is_status) = absurd (omega arith)
+
+-- an ending for which nothing was read
+pub ends_made : (P : List ℕ → Status → Type 0) (left before after : Option (List ℕ)) (status : Status) → Ending P before after status → Ends (λ input. P) left before after status
+ends_made P left before after status ending = record { input = before_read left []; known = known_before left []; ending = ending }

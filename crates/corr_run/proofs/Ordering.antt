@@ -4,9 +4,9 @@ use Rattle.std.proofs.lemmas.List.{length-map}
 use Rattle.corr_game.specs.declared.notions.Notion.{Notion}
 use Rattle.report_form.specs.declared.reports.NamedBlock.{NamedBlock}
 use Rattle.report_form.specs.Ranges.{InOrderFrom, notion_number}
-use Rattle.corr_run.specs.declared.commands.Notions.{Notions}
+use Rattle.command_words.specs.declared.commands.Notions.{Notions}
 use Rattle.corr_run.specs.Reports.{AreWhole, notions_of}
-use Rattle.corr_run.specs.Selection.{SelectsSome, selected}
+use Rattle.command_words.specs.Selection.{SelectsSome, selected}
 
 -- notions in order, from this number on
 abbrev pub AscendFrom : ℕ → List Notion → Type 0

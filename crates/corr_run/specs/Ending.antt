@@ -3,11 +3,14 @@ use Rattle.std.specs.Prelude.{◌≡◌, ℕ, List, Option, None, Some, ⊤}
 use Rattle.std.specs.Io.KnownBytes.{Appends, Keeps}
 use Rattle.corr_port.specs.Known.{AppendsFront}
 use Rattle.corr_run.specs.declared.status.Status.{Status}
-use Rattle.corr_run.specs.declared.status.Status.TheVariants.{Solved, Refused, TooWide, Usage, NoMemory, ReadFault, WriteFault}
+use Rattle.corr_run.specs.declared.status.Status.TheVariants.{Solved, Written, Yes, No, Refused, TooWide, Usage, NoMemory, ReadFault, WriteFault}
 
 -- the status goes with a text that was written whole
 abbrev pub IsWhole : Status → Type 0
 IsWhole Solved = ⊤
+IsWhole Written = ⊤
+IsWhole Yes = ⊤
+IsWhole No = ⊤
 IsWhole Refused = ⊤
 IsWhole TooWide = ⊤
 IsWhole Usage = ⊤

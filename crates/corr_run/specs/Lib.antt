@@ -1,11 +1,13 @@
 pub mod Answer
+pub mod CheckAnswer
 pub mod Ending
 pub mod ExitNumber
+pub mod GenAnswer
 pub mod Input
 pub mod Lines
 pub mod OneNode
 pub mod Refusals
 pub mod Reports
 pub mod Scaling
-pub mod Selection
-pub mod Words
+pub mod SolveAnswer
+pub mod WorkAnswer

@@ -6,3 +6,6 @@ usage_line = codes "usage: corr solve|check|gen|work [--notion efce|efcce|nfcce]
 
 unfoldable pub too_long_line : List ℕ
 too_long_line = codes "refused InputTooLong 4194304\n"
+
+unfoldable pub report_too_long_line : List ℕ
+report_too_long_line = codes "refused InputTooLong 1073741824\n"

@@ -5,7 +5,7 @@ use Rattle.std.specs.Fmt.{signed_decimal}
 use Rattle.corr_game.specs.declared.notions.Notion.{Notion}
 use Rattle.corr_game.specs.declared.notions.Notion.TheVariants.{Efce, Efcce, Nfcce}
 use Rattle.corr_game.specs.declared.payoffs.Pay.{Pay}
-use Rattle.corr_run.specs.declared.commands.Notions.{Notions}
+use Rattle.command_words.specs.declared.commands.Notions.{Notions}
 
 unfoldable pub notion_name : Notion → List ℕ
 notion_name Efce = codes "efce"

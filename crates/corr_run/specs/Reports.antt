@@ -8,10 +8,10 @@ use Rattle.report_form.specs.declared.reports.Block.{Block}
 use Rattle.report_form.specs.declared.reports.Block.TheVariants.{Found, Empty, TooWide}
 use Rattle.report_form.specs.declared.reports.NamedBlock.{NamedBlock}
 use Rattle.report_form.specs.Ranges.{IsBlock}
-use Rattle.corr_run.specs.declared.commands.Notions.{Notions}
+use Rattle.command_words.specs.declared.commands.Notions.{Notions}
 use Rattle.corr_run.specs.declared.status.Status.{Status}
 use Rattle.corr_run.specs.declared.status.Status.TheVariants as status
-use Rattle.corr_run.specs.Selection.{selected, selects}
+use Rattle.command_words.specs.Selection.{selected, selects}
 
 -- a notion's program has at most 2048 rows and 8192 columns
 abbrev pub FitsProgram : GameView → PairsView → Notion → Type 0

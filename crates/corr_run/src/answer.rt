@@ -1,17 +1,18 @@
-// The answer to an input: a whole text and a status.
+// The answer to a game's file: a whole text and a status.
 ghost use Rattle.std.specs.Prelude.{◌≡◌, true, false, IfOk};
-ghost use Rattle.corr_run.specs.Answer.{IsGeneral, SolveAnswer};
+ghost use Rattle.corr_run.specs.SolveAnswer.{IsGeneral, SolveAnswer};
+ghost use Rattle.report_text.specs.RefusalText.{refusal_text};
 ghost use Rattle.report_text.specs.ReportText.{report_text};
 ghost use Rattle.corr_run.specs.Reports.{HasStatus, NoneTooWide};
-ghost use Rattle.corr_run.specs.Selection.{SelectsSome};
+ghost use Rattle.command_words.specs.Selection.{SelectsSome};
 
 use crate::Status;
-use crate::commands::Notions;
 use crate::one_node::report_of;
 use crate::solving::solve_file;
+use command_words::Notions;
 use efg_reader::first_form;
 use either::{Left, Right};
-use report_form::{Block, BlockList, Report};
+use report_form::{Block, BlockList, Refusal, Report};
 use report_text::{write_refusal, write_report};
 use std::alloc::{AllocError, Global};
 
@@ -25,8 +26,20 @@ pub struct Answer {
     pub status: Status,
 }
 
+/// The line of a refusal.
+pub fn refused(alloc: Global, refusal: &Refusal) -> Result<Answer, AllocError>
+    ensures text { IfOk result (λ answer. answer.text.items ≡ refusal_text refusal.now) }
+    ensures status { IfOk result (λ answer. answer.status ≡ Status.Refused) }
+{
+    let text = write_refusal(alloc, refusal)?;
+    Ok(Answer {
+        text,
+        status: Status::Refused,
+    })
+}
+
 /// Whether a block names a tableau that is too wide.
-fn some_too_wide(blocks: &BlockList) -> bool
+pub fn some_too_wide(blocks: &BlockList) -> bool
     ensures none { result ≡ false → NoneTooWide blocks.now }
     ensures some { result ≡ true → NoneTooWide blocks.now → ⊥ }
 {
@@ -63,10 +76,10 @@ fn general_answer(alloc: Global, input: &[u8], notions: Notions) -> Result<Answe
     ensures { IfOk result (λ answer. SolveAnswer notions input.now answer.text.items answer.status) }
 {
     match solve_file(alloc, input, notions)? {
-        Left(refusal) => Ok(Answer {
-            text: write_refusal(alloc, &refusal)?,
-            status: Status::Refused,
-        }),
+        Left(refusal) => {
+            let answer = refused(alloc, &refusal)?;
+            Ok(answer)
+        }
         Right(report) => {
             let answer = report_answer(alloc, &report)?;
             Ok(answer)

@@ -5,7 +5,8 @@
 #![tactic(auto)]
 
 mod answer;
-mod commands;
+mod checking;
+mod games;
 mod input;
 mod one_node;
 mod prepare;
@@ -13,7 +14,7 @@ mod solving;
 mod status;
 mod top;
 
-pub use commands::Notions;
+pub use command_words::{Command, Notions, read_words};
 pub use prepare::{Ready, ReadyEnd};
 pub use status::Status;
 pub use top::run;

@@ -3,7 +3,7 @@ ghost use Rattle.std.specs.Prelude.{◌≡◌, OnOk, IfOk};
 ghost use Rattle.text_pieces.specs.Piece.{Adds};
 ghost use Rattle.corr_run.specs.OneNode.{notion_name, further_multipliers, corner, multipliers, side, sides, block, block_if, one_node_report};
 
-use crate::commands::Notions;
+use command_words::Notions;
 use corr_game::{Notion, Pay};
 use std::alloc::{AllocError, Global};
 use text_pieces::{add_bytes, add_number};

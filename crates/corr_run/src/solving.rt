@@ -8,10 +8,10 @@ ghost use Rattle.triangle_test.specs.declared.triangles.Quad.{Quad};
 ghost use Rattle.report_form.specs.Ranges.{IsBlock, IsReport};
 ghost use Rattle.corr_run.specs.Refusals.{IsOfInput};
 ghost use Rattle.corr_run.specs.Reports.{FitsProgram, FitPrograms, AreBlocksOf, AreWhole, notions_of};
-ghost use Rattle.corr_run.specs.Selection.{SelectsSome, selected};
+ghost use Rattle.command_words.specs.Selection.{SelectsSome, selected};
 
-use crate::commands::Notions;
 use crate::prepare::{Ready, ReadyEnd, prepare};
+use command_words::Notions;
 use connected_pairs::Pairs;
 use corr_game::{Game, Notion, Side};
 use either::{Either, Left, Right};
@@ -26,7 +26,12 @@ const ROW_LIMIT: u64 = 2048;
 const COLUMN_LIMIT: u64 = 8192;
 
 /// The refusal of a selected notion whose program is too large.
-fn size_refusal(game: &Game, pairs: &Pairs, is_selected: bool, notion: Notion) -> Option<Refusal>
+pub fn size_refusal(
+    game: &Game,
+    pairs: &Pairs,
+    is_selected: bool,
+    notion: Notion,
+) -> Option<Refusal>
     requires { IsPairsOf game.now pairs.now }
     ensures { MatchOption result (is_selected ≡ true → FitsProgram game.now pairs.now notion) IsOfInput }
 {

@@ -4,11 +4,17 @@ ghost use Rattle.std.specs.Prelude.{◌≡◌, ℕ};
 /// How a run ended.
 #[derive(Clone, Copy, Debug, PartialEq, Eq)]
 pub enum Status {
-    /// A report was written, and each of its blocks is whole.
+    /// A report or a summary was written, and each of its blocks is whole.
     Solved,
+    /// A generated game was written.
+    Written,
+    /// The verdict was written that each rule holds.
+    Yes,
+    /// The verdict was written that some rule doesn't.
+    No,
     /// The input was refused, and the line that says why was written.
     Refused,
-    /// A report was written, in which some block names a tableau that is too wide.
+    /// A report, a summary or a verdict was written, and some block names a tableau that is too wide.
     TooWide,
     /// The words mean no command, and the usage line was written.
     Usage,
@@ -29,6 +35,9 @@ impl Status {
     {
         match self {
             Status::Solved => 0,
+            Status::Written => 0,
+            Status::Yes => 0,
+            Status::No => 1,
             Status::Refused => 2,
             Status::TooWide => 3,
             Status::Usage => 64,

@@ -168,6 +168,9 @@ fn a_fault_leaves_a_front_of_the_text(rt: HostRuntime) -> Result<(), Fail> {
 fn statuses_have_their_exit_numbers(rt: HostRuntime) {
     let all = [
         Status::Solved,
+        Status::Written,
+        Status::Yes,
+        Status::No,
         Status::Refused,
         Status::TooWide,
         Status::Usage,
@@ -175,7 +178,7 @@ fn statuses_have_their_exit_numbers(rt: HostRuntime) {
         Status::ReadFault,
         Status::WriteFault,
     ];
-    let numbers = [0u8, 2, 3, 64, 70, 72, 74];
+    let numbers = [0u8, 0, 0, 1, 2, 3, 64, 70, 72, 74];
     for (status, number) in all.iter().zip(numbers) {
         assert_eq!(rt; status.code(), number);
     }

@@ -44,8 +44,9 @@ pub(crate) fn greatest_of(kind: Kind) -> u32
     }
 }
 
+/// The name of a kind.
 #[tactic(auto, unfolding(crate::specs::GameText::kind_name))]
-pub(crate) fn name_of(kind: Kind) -> &'static [u8]
+pub fn kind_text(kind: Kind) -> &'static [u8]
     ensures { result.now ≡ kind_name kind }
 {
     match kind {

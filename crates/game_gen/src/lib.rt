@@ -1,6 +1,6 @@
 //! Games made from a number, for tests and measurements: bargains behind a public chance move, and centipedes.
 //!
-//! It stands on `text_pieces` for writing. The one call is `generate`; its text is `game_text` of `specs/GameText`, a function
+//! It stands on `text_pieces` for writing. `generate` makes the file of a game; its text is `game_text` of `specs/GameText`, a function
 //! of the kind, the size and the seed, with the random numbers of `specs/Random`. The bytes are the same at each run.
 #![tactic(auto)]
 
@@ -11,7 +11,7 @@ mod lines;
 mod outcomes;
 
 pub use games::generate;
-pub use kinds::{GenRefusal, Kind};
+pub use kinds::{GenRefusal, Kind, kind_text};
 
 #[cfg(test)]
 mod tests;

@@ -4,7 +4,7 @@ ghost use Rattle.text_pieces.specs.Piece.{Adds};
 ghost use Rattle.game_gen.specs.GameText.{below_text, kind_name, title, chance_action, chance_line, leaf_line, drawn_leaf};
 
 use crate::draws::Draws;
-use crate::kinds::{Kind, name_of};
+use crate::kinds::{Kind, kind_text};
 use std::alloc::AllocError as NoMemory;
 use text_pieces::{add_bytes, add_number};
 
@@ -12,7 +12,7 @@ pub(crate) fn add_title(out: &mut Vec<u8>, kind: Kind) -> Result<(), NoMemory>
     ensures { OnOk result (Adds out.old.items out.new.items (title kind)) }
 {
     add_bytes(out, b"EFG 2 R \"")?;
-    add_bytes(out, name_of(kind))?;
+    add_bytes(out, kind_text(kind))?;
     add_bytes(out, b"\" { \"1\" \"2\" }\n")?;
     Ok(())
 }

@@ -1,5 +1,5 @@
 use Rattle.std.proofs.Common.{refl}
-use Rattle.corr_run.specs.Answer.{too_long, one_node}
+use Rattle.corr_run.specs.SolveAnswer.{too_long, one_node}
 use Rattle.corr_run.specs.Lines.{too_long_line}
 use Rattle.corr_run.proofs.answer.solve_answer.Goals as goal
 

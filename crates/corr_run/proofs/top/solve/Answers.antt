@@ -1,5 +1,5 @@
 use Rattle.std.proofs.Common.{arith}
-use Rattle.corr_run.specs.Answer.{SolveAnswer}
+use Rattle.corr_run.specs.SolveAnswer.{SolveAnswer}
 use Rattle.corr_run.proofs.Endings.{ends_unread, ends_no_memory, ends_written, too_long_still}
 use Rattle.corr_run.proofs.top.solve.Goals as goal
 

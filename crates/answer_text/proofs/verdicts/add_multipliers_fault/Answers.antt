@@ -1,0 +1,8 @@
+use Rattle.text_pieces.proofs.Pieces.{Adds-join}
+use Rattle.answer_text.specs.VerdictText.{item_text}
+use Rattle.answer_text.proofs.verdicts.add_multipliers_fault.Goals as goal
+
+pub returns : goal.returns
+unfolding item_text
+returns c =
+    Adds-join c.in_ok-add_bytes.ensures.ok c.in_ok-add_cause.ensures

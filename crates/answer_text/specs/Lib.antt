@@ -1,0 +1,2 @@
+pub mod SummaryText
+pub mod VerdictText

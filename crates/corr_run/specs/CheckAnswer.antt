@@ -1,0 +1,47 @@
+-- What `check` answers: a text and a status, one constructor for each case.
+use Rattle.std.specs.Prelude.{◌≡◌, ℕ, ◌^◌, ◌<◌, ◌≤◌, List, drop, length}
+use Rattle.answer_text.specs.VerdictText.{verdict_text}
+use Rattle.cert_check.specs.declared.verdicts.Verdict.{Verdict}
+use Rattle.cert_check.specs.declared.verdicts.Verdict.TheVariants as verdict
+use Rattle.cert_check.specs.Fits.{AllFit}
+use Rattle.cert_check.specs.Scales.{HasScales}
+use Rattle.connected_pairs.specs.Connected.{IsPairsOf, PairsView}
+use Rattle.corr_game.specs.Game.{GameView}
+use Rattle.efg_reader.specs.Machine.{IsAccepted}
+use Rattle.report_form.specs.declared.refusals.Refusal.{Refusal}
+use Rattle.report_form.specs.declared.refusals.Refusal.TheVariants.{Report}
+use Rattle.report_form.specs.Ranges.{IsReport}
+use Rattle.report_form.specs.View.{ReportView}
+use Rattle.report_text.specs.RefusalText.{refusal_text}
+use Rattle.corr_run.specs.declared.status.Status.{Status}
+use Rattle.corr_run.specs.declared.status.Status.TheVariants.{Yes, No, Refused, TooWide}
+use Rattle.corr_run.specs.Lines.{report_too_long_line}
+use Rattle.corr_run.specs.Refusals.{IsOfInput}
+
+-- the status of a verdict
+abbrev pub verdict_status : Verdict → Status
+verdict_status verdict.Yes = Yes
+verdict_status verdict.Partial = TooWide
+verdict_status verdict.NoScale = No
+verdict_status (verdict.No notion at broken) = No
+
+-- what is known of a verdict on a report: it says that the scales aren't the game's exactly where they aren't
+pub record IsVerdict (g : GameView) (report : ReportView) (given : Verdict) : Type 0 where
+  pub scales_differ : given ≡ verdict.NoScale → HasScales g report → ⊥
+  pub no_scale : (HasScales g report → ⊥) → given ≡ verdict.NoScale
+
+-- what a report was held against: a game whose file is what the input has from a place on, and the relevant pairs of its sequences
+pub record IsHeldAgainst (input : List ℕ) (report : ReportView) (g : GameView) (p : PairsView) : Type 0 where
+  pub place : ℕ
+  pub within : place ≤ length input
+  pub accepted : IsAccepted (drop place input)
+  pub whose : IsPairsOf g p
+  pub sizes : AllFit g p report.blocks
+
+-- the text and the status that `check` gives to its input
+pub data CheckAnswer (input text : List ℕ) (status : Status) : Type 0 where
+  too_long : 2 ^ 30 < length input → text ≡ report_too_long_line → status ≡ Refused → CheckAnswer input text status
+  no_report : length input ≤ 2 ^ 30 → (at : ℕ) → at ≤ length input → text ≡ refusal_text (Report at) → status ≡ Refused → CheckAnswer input text status
+  refused : length input ≤ 2 ^ 30 → (refusal : Refusal) → IsOfInput refusal → text ≡ refusal_text refusal → status ≡ Refused → CheckAnswer input text status
+  judged : length input ≤ 2 ^ 30 → (report : ReportView) → IsReport report → (g : GameView) → (p : PairsView) → IsHeldAgainst input report g p
+      → (given : Verdict) → IsVerdict g report given → text ≡ verdict_text given report.blocks → status ≡ verdict_status given → CheckAnswer input text status
