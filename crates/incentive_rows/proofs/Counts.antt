@@ -93,7 +93,7 @@ correlation_one g p side a b s t =
     sum_one (HasRowsOfSet p side) of_set (length (sets_of side g)) a b s t
   where
     beside : (set : ℕ) → HasOne (HasRowBeside p side set)
-    beside set = record { same = λ k m n s t. where_one 1 m n s t; }
+    beside set = record { same = λ k m n s t. where_one 1 m n s t }
 
     of_set : HasOne (HasRowsOfSet p side)
-    of_set = record { same = λ set m n s t. sum_one (HasRowBeside p side set) (beside set) (count_of (side_of (other side) p.seqs)) m n s t; }
+    of_set = record { same = λ set m n s t. sum_one (HasRowBeside p side set) (beside set) (count_of (side_of (other side) p.seqs)) m n s t }
