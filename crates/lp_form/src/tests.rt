@@ -3,6 +3,7 @@ ghost use Rattle.std.specs.Prelude.{◌≡◌, length, IfOk};
 use super::*;
 use corr_game::Side;
 use std::alloc::AllocError;
+use std::process::Abort;
 
 // One row, x0 + x1 = 1, with the payoff rows (3, 1) and (1, 2); set out of order, and one place twice.
 fn one_row(rt: &HostRuntime) -> Result<Lp, AllocError>
@@ -28,11 +29,19 @@ fn two_programs_and_both_together(rt: HostRuntime) -> Result<(), AllocError> {
     let lp = Lp::join(one_row(&rt)?, more)?;
     assert_eq!(rt; lp.rows(), 2);
     assert_eq!(rt; lp.cols(), 3);
-    let coefficients = [[1, 1, 0], [0, 0, -1]];
-    for (row, right) in [(0, 1), (1, 0)] {
+    expect_numbers(&rt, &lp);
+    Ok(())
+}
+
+/// The numbers of both programs together.
+fn expect_numbers(rt: &impl Abort, lp: &Lp)
+    requires rows { length lp.now.rows ≡ 2 }
+    requires columns { lp.now.cols ≡ 3 }
+{
+    for (row, right, coefficients) in [(0, 1, [1, 1, 0]), (1, 0, [0, 0, -1])] {
         assert_eq!(rt; lp.right(row), right);
-        for col in 0..3 {
-            assert_eq!(rt; lp.coef(row, col), coefficients[row as usize][col as usize]);
+        for col in 0..3u32 {
+            assert_eq!(rt; lp.coef(row, col), coefficients[col as usize]);
         }
     }
     for (col, one, two) in [(0, 3, 1), (1, 1, 2), (2, 0, 0)] {
@@ -40,5 +49,4 @@ fn two_programs_and_both_together(rt: HostRuntime) -> Result<(), AllocError> {
         assert_eq!(rt; lp.payoff(Side::Two, col), two);
     }
     assert_eq!(rt; lp.row(0).len(), 2);
-    Ok(())
 }
