@@ -16,6 +16,7 @@ use std::alloc::Global;
 use std::process::Abort;
 use std::test::Fail;
 use tree_recall::recall;
+use triangle_test::triangle;
 
 /// A game and the relevant pairs of its sequences.
 #[derive(Debug, Drop)]
@@ -35,7 +36,7 @@ pub fn open(rt: &impl Abort, alloc: Global, text: &str) -> Result<Opened, Fail>
     Ok(Opened { game, pairs })
 }
 
-/// The program of a notion and the block that is found for it.
+/// The program of a notion and the block that is found for it, in a game without a triangle.
 pub fn solved(
     rt: &impl Abort,
     alloc: Global,
@@ -47,6 +48,8 @@ pub fn solved(
     let (rows, columns) = program_size(&opened.game, &opened.pairs, notion);
     assert!(rt; rows <= 2048);
     assert!(rt; columns <= 8192);
+    let met = triangle(&opened.game, &opened.pairs);
+    assert!(rt; met.is_none());
     let base = polytope(alloc, &opened.game, &opened.pairs)?;
     let more = incentives(alloc, &opened.game, &opened.pairs, notion)?;
     let lp = Lp::join(base, more)?;
