@@ -1,3 +1,4 @@
 pub mod Outcome
 pub mod Programs
+pub mod Spread
 pub mod WideBlock

@@ -11,6 +11,7 @@ ghost use Rattle.triangle_test.specs.Triangle.{IsTriangle};
 ghost use Rattle.triangle_test.specs.declared.triangles.Quad.{Quad};
 ghost use Rattle.notion_solve.specs.Outcome.{IsOutcome};
 ghost use Rattle.notion_solve.specs.Programs.{IsOverRows};
+ghost use Rattle.notion_solve.specs.Spread.{AreSpread};
 ghost use Rattle.report_form.specs.Ranges.{IsBlock};
 
 use crate::corners::corners_of;
@@ -53,6 +54,7 @@ pub fn solve(alloc: Global, game: &Game, pairs: &Pairs, notion: Notion) -> Resul
     requires no_triangle { (quad : Quad) → IsTriangle pairs.now quad → ⊥ }
     requires size { (rows columns : ℕ) × HasSize game.now pairs.now notion rows columns × (rows ≤ 2048) × (columns ≤ 8192) }
     ensures ranges { IfOk result IsBlock }
+    ensures spread { IfOk result (AreSpread pairs.now) }
 {
     let lp = program(alloc, game, pairs, notion)?;
     let mut table = Dense::start(alloc, &lp)?;
@@ -70,7 +72,8 @@ fn found(alloc: Global, game: &Game, pairs: &Pairs, swept: Swept) -> Result<Bloc
     requires no_triangle { (quad : Quad) → IsTriangle pairs.now quad → ⊥ }
     requires few { length pairs.now.pairs ≤ 8192 }
     requires swept { (lp : LpView) × IsSwept lp swept × IsOverRows pairs.now lp }
-    ensures { IfOk result IsBlock }
+    ensures ranges { IfOk result IsBlock }
+    ensures spread { IfOk result (AreSpread pairs.now) }
 {
     let Swept { corners, sides } = swept;
     Ok(Block::Found {

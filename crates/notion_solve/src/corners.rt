@@ -9,6 +9,7 @@ ghost use Rattle.lp_form.specs.Program.{LpView};
 ghost use Rattle.triangle_test.specs.Triangle.{IsTriangle};
 ghost use Rattle.triangle_test.specs.declared.triangles.Quad.{Quad};
 ghost use Rattle.notion_solve.specs.Programs.{IsOverRows};
+ghost use Rattle.notion_solve.specs.Spread.{IsSpread};
 
 use connected_pairs::Pairs;
 use corr_game::{Game, Side};
@@ -74,7 +75,8 @@ fn corner_of(
     requires no_triangle { (quad : Quad) → IsTriangle pairs.now quad → ⊥ }
     requires few { length pairs.now.pairs ≤ 8192 }
     requires corner { (lp : LpView) × IsCornerOf lp corner.now × IsOverRows pairs.now lp }
-    ensures { IfOk result IsCorner }
+    ensures ranges { IfOk result IsCorner }
+    ensures spread { IfOk result (IsSpread pairs.now) }
 {
     let point = point_of(game, corner);
     let values = front(alloc, &corner.values, pairs.len())?;
@@ -98,7 +100,8 @@ pub fn corners_of(
     requires few { length pairs.now.pairs ≤ 8192 }
     requires swept { (lp : LpView) × All (IsCornerOf lp) swept.now × IsOverRows pairs.now lp }
     ensures count { IfOk result (λ corners. length corners ≡ length swept.now) }
-    ensures each { IfOk result (λ corners. All IsCorner corners) }
+    ensures ranges { IfOk result (λ corners. All IsCorner corners) }
+    ensures spread { IfOk result (λ corners. All (IsSpread pairs.now) corners) }
 {
     let mut corners = Corners::new(alloc);
     for k in 0..swept.len() {

@@ -3,8 +3,8 @@ use Rattle.std.proofs.Common.{◌≤◌, length, arith}
 use Rattle.notion_solve.proofs.Weighing.{all_side_ranges}
 use Rattle.notion_solve.proofs.blocks.found.Goals as goal
 
-pub returns : goal.returns
-returns c =
+pub returns-clause-ranges : goal.returns-clause-ranges
+returns-clause-ranges c =
     let swept = c.requires.swept.1 in
     let some : 1 ≤ length c.in_ok-corners_of.field-0 = omega (arith, c.in_ok-corners_of.ensures.count, swept.a_corner) in
-    (some, swept.a_side, c.in_ok-corners_of.ensures.each, rw c.in_ok-corners_of.ensures.count (all_side_ranges _ _ c.args.swept.sides swept.sides))
+    (some, swept.a_side, c.in_ok-corners_of.ensures.ranges, rw c.in_ok-corners_of.ensures.count (all_side_ranges _ _ c.args.swept.sides swept.sides))

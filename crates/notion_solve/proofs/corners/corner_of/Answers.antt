@@ -2,7 +2,7 @@
 use Rattle.std.proofs.Common.{◌≤◌, ◌≤ℤ◌, pos, length, arith}
 use Rattle.std.proofs.lemmas.Int.{ints}
 use Rattle.corr_num.proofs.PrintedTerms.{narrow_returned}
-use Rattle.notion_solve.proofs.Cutting.{cut_solution}
+use Rattle.notion_solve.proofs.Cutting.{cut_solution, cut_total}
 use Rattle.notion_solve.proofs.Weighing.{entry_pairs}
 use Rattle.notion_solve.proofs.corners.corner_of.Goals as goal
 
@@ -11,11 +11,26 @@ decompose-requires-clause-solution c =
     let corner = c.requires.corner in
     cut_solution c.args.pairs.now corner.0 c.args.corner.now c.in_ok-values.values corner.2 corner.1 (rw c.len.ensures.count at c.in_ok-values.ensures.front) c.requires.no_triangle
 
-pub returns : goal.returns
-returns c =
+pub returns-clause-ranges : goal.returns-clause-ranges
+returns-clause-ranges c =
     let corner = c.requires.corner.1 in
     let above = corner.positive in
     let at_most : length c.in_ok-pairs.pairs ≤ 65535 = omega (arith, c.in_ok-pairs.ensures.few, c.requires.few) in
     let positive : pos 1 ≤ℤ c.args.corner.now.den = omega (arith, ints) in
     rw (narrow_returned c.args.corner.now.den corner.den)
     ((positive, corner.den), c.in_ok-pairs.ensures.some, at_most, entry_pairs c.args.game.now c.args.pairs.now.seqs c.in_ok-pairs.pairs c.point_of-point.ensures.rules c.in_ok-pairs.ensures.entries)
+
+pub returns-clause-spread : goal.returns-clause-spread
+returns-clause-spread c =
+    let needs = c.requires.corner in
+    let corner = needs.1 in
+    let p = c.args.pairs.now in
+    let cut = rw c.len.ensures.count at c.in_ok-values.ensures.front in
+    let values = c.in_ok-values.values in
+    let s = cut_solution p needs.0 c.args.corner.now values needs.2 corner cut c.requires.no_triangle in
+    rw (narrow_returned c.args.corner.now.den corner.den) (record {
+      values = values;
+      meets = s.rows;
+      total = cut_total p needs.0 c.args.corner.now values needs.2 corner cut;
+      sums = c.in_ok-pairs.ensures.sums;
+    })
