@@ -4,13 +4,12 @@ pub mod Assembly
 pub mod Event
 pub mod File
 pub mod FirstForm
+pub mod Line
 pub mod Machine
-pub mod Number
 pub mod Reading
 pub mod Refusal
 pub mod Sets
 pub mod Turn
-pub mod Words
 pub mod Outline
 pub mod Places
 pub mod RawGame

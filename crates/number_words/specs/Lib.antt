@@ -1,0 +1,5 @@
+pub mod Chances
+pub mod Limit
+pub mod Number
+pub mod Value
+pub mod Words
