@@ -9,3 +9,4 @@ pub mod PlaceBelow
 pub mod SetsSoFar
 pub mod WholeGame
 pub mod Widths
+pub mod WordLists

@@ -4,7 +4,6 @@ pub mod Assembly
 pub mod Event
 pub mod File
 pub mod FirstForm
-pub mod Line
 pub mod Machine
 pub mod Reading
 pub mod Refusal
@@ -12,4 +11,6 @@ pub mod Sets
 pub mod Turn
 pub mod Outline
 pub mod Places
+pub mod Probs
 pub mod RawGame
+pub mod WideLine
