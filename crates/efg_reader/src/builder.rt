@@ -13,12 +13,10 @@ ghost use Rattle.efg_reader.specs.Outline.{above, places};
 ghost use Rattle.efg_reader.specs.Places.{awaited};
 ghost use Rattle.efg_reader.specs.Sets.{info_of, turn_of, AreChances, AreSetsOf, IsChoice, IsWhole};
 
-use number_words::{common_denominator, has_negative, sums_to_one};
 use crate::entry::{Entry, Turn, read_entry};
 use crate::events::{Bare, Event};
 use crate::first_lists::{FirstList, OutcomePays};
 use crate::node_line::{ActLines, LineKind, NodeLine};
-use number_words::Number;
 use crate::outline::Outline;
 use crate::raw_file::RawFile;
 use crate::raw_game::{FracList, RawGame};
@@ -27,6 +25,7 @@ use crate::set_lists::{define_set, list_at};
 use crate::tree::assemble;
 use corr_game::{SetId, SetInfo, Side};
 use indexmap::IndexMap;
+use number_words::{Number, common_denominator, has_negative, sums_to_one};
 use std::alloc::{AllocError as NoMemory, Global};
 
 /// The game that a file says.
