@@ -1,13 +1,10 @@
 //! The numbers of a node line.
 
-ghost use Rattle.std.specs.Prelude.{◌≡◌, IfOk, IfSome, Any};
-ghost use Rattle.efg_reader.specs.Probs.{AreProbs, AreValues, IsProbOf};
-ghost use Rattle.efg_reader.specs.Turn.{IsEntryOf, IsTurnOf};
-ghost use Rattle.efg_reader.specs.WideLine.{HasWidePay, HasWideProb, IsWideKind, IsWideLine, IsWideProb};
-ghost use Rattle.number_words.specs.Limit.{PassesLimit};
+ghost use Rattle.std.specs.Prelude.{◌≡◌, ◌≤◌, ◌<◌, ◌^◌, length, vec_len, IfOk, IfSome};
+ghost use Rattle.efg_reader.specs.Turn.{acts_in, IsTurnOf};
 
 use crate::node_line::{ActLine, ActLines, LineKind, NodeLine, PayWords};
-use number_words::{Number, number_value, whole_value};
+use crate::numbers::{Number, number_value, whole_value};
 use std::alloc::{AllocError as NoMemory, Global};
 
 /// Who moves at a line, and at which set; in a chance line the probabilities that it lists.
@@ -28,8 +25,7 @@ pub struct Entry {
 
 /// The numbers of a line; none where one of them passes its limit.
 pub fn read_entry(alloc: Global, line: &NodeLine) -> Result<Option<Entry>, NoMemory>
-    ensures within { IfOk result (λ entry. IfSome entry (IsEntryOf line.now)) }
-    ensures wide { IfOk result (λ entry. entry ≡ None → IsWideLine line.now) }
+    ensures { IfOk result (λ entry. IfSome entry (λ it. IsTurnOf line.now.kind it.turn)) }
 {
     let Some(turn) = read_turn(alloc, &line.kind)? else {
         return Ok(None);
@@ -48,8 +44,7 @@ pub fn read_entry(alloc: Global, line: &NodeLine) -> Result<Option<Entry>, NoMem
 }
 
 fn read_turn(alloc: Global, kind: &LineKind) -> Result<Option<Turn>, NoMemory>
-    ensures within { IfOk result (λ turn. IfSome turn (IsTurnOf kind.now)) }
-    ensures wide { IfOk result (λ turn. turn ≡ None → IsWideKind kind.now) }
+    ensures { IfOk result (λ turn. IfSome turn (IsTurnOf kind.now)) }
 {
     match kind {
         LineKind::Chance { set, acts } => {
@@ -76,8 +71,7 @@ fn read_turn(alloc: Global, kind: &LineKind) -> Result<Option<Turn>, NoMemory>
 
 /// A probability for each action of the list.
 fn read_probs(alloc: Global, acts: &Option<ActLines>) -> Result<Option<Vec<Number>>, NoMemory>
-    ensures within { IfOk result (λ probs. IfSome probs (λ it. IfSome acts.now (λ lines. AreProbs lines it.items))) }
-    ensures wide { IfOk result (λ probs. probs ≡ None → HasWideProb acts.now) }
+    ensures { IfOk result (λ probs. IfSome probs (λ it. IfSome acts.now (λ lines. vec_len it ≡ length lines))) }
 {
     match acts {
         Some(acts) => probs_of(alloc, acts),
@@ -86,8 +80,7 @@ fn read_probs(alloc: Global, acts: &Option<ActLines>) -> Result<Option<Vec<Numbe
 }
 
 fn probs_of(alloc: Global, acts: &ActLines) -> Result<Option<Vec<Number>>, NoMemory>
-    ensures within { IfOk result (λ probs. IfSome probs (λ it. AreProbs acts.now it.items)) }
-    ensures wide { IfOk result (λ probs. probs ≡ None → Any IsWideProb acts.now) }
+    ensures { IfOk result (λ probs. IfSome probs (λ it. vec_len it ≡ length acts.now)) }
 {
     let mut probs = Vec::new(alloc);
     for k in 0..acts.len() {
@@ -100,37 +93,22 @@ fn probs_of(alloc: Global, acts: &ActLines) -> Result<Option<Vec<Number>>, NoMem
 }
 
 /// The probability of an action, 0 where the line has no word for it; none where it passes its limit.
-fn prob_of(act: &ActLine) -> Option<Number>
-    ensures within { IfSome result (IsProbOf act.now) }
-    ensures wide { result ≡ None → IsWideProb act.now }
-{
+fn prob_of(act: &ActLine) -> Option<Number> {
     match &act.prob {
         Some(word) => number_value(word.as_slice()),
         None => Some(Number::null()),
     }
 }
 
-fn read_pays(alloc: Global, words: &Option<PayWords>) -> Result<Option<Vec<Number>>, NoMemory>
-    ensures within { IfOk result (λ pays. IfSome pays (λ it. IfSome words.now (λ list. AreValues list it.items))) }
-    ensures wide { IfOk result (λ pays. pays ≡ None → HasWidePay words.now) }
-{
-    match words {
-        Some(words) => pays_of(alloc, words),
-        None => Ok(Some(Vec::new(alloc))),
-    }
-}
-
-/// A payoff for each word of the list.
-fn pays_of(alloc: Global, words: &PayWords) -> Result<Option<Vec<Number>>, NoMemory>
-    ensures within { IfOk result (λ pays. IfSome pays (λ it. AreValues words.now it.items)) }
-    ensures wide { IfOk result (λ pays. pays ≡ None → Any PassesLimit words.now) }
-{
+fn read_pays(alloc: Global, words: &Option<PayWords>) -> Result<Option<Vec<Number>>, NoMemory> {
     let mut pays = Vec::new(alloc);
-    for k in 0..words.len() {
-        let Some(pay) = number_value(words.at(k).as_slice()) else {
-            return Ok(None);
-        };
-        pays.push(pay)?;
+    if let Some(words) = words {
+        for k in 0..words.len() {
+            let Some(pay) = number_value(words.at(k).as_slice()) else {
+                return Ok(None);
+            };
+            pays.push(pay)?;
+        }
     }
     Ok(Some(pays))
 }

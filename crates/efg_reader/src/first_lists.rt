@@ -3,7 +3,7 @@
 ghost use Rattle.std.specs.Prelude.{◌≤◌, length};
 
 use crate::node_line::ActLines;
-use number_words::Number;
+use crate::numbers::Number;
 
 /// The first list of a set: its actions, and in a chance set their probabilities.
 #[derive(Debug, Drop)]
