@@ -1,6 +1,6 @@
 """Reports and game files as the tools beside `corr` read them, and what these tools share at the command line.
 
-A report is read in the whole of its format, a game file by its grammar alone: whether a report is true, and a game one that `corr` accepts, is for
+A report is read in the whole of its format, a game file by its grammar alone: whether a report is true, and whether `corr` accepts a game, is for
 `corr` to say. docs/FORMATS.md has both formats.
 """
 import argparse
@@ -56,7 +56,7 @@ class _Lines:
         self.number += 1
         match = re.fullmatch(pattern, line) if line is not None else None
         if match is None:
-            raise Bad(f"line {self.number} of the report isn't {what}" if line is not None else f"the report ends before {what}, line {self.number}")
+            raise Bad(f"the report ends before line {self.number}, {what}" if line is None else f"line {self.number} of the report isn't {what}")
         self.at += len(line) + 1
         return match.groups()
 
@@ -252,7 +252,6 @@ class Words(argparse.ArgumentParser):
         super().__init__(
             prog=name, description=text, epilog=examples, allow_abbrev=False, formatter_class=argparse.RawDescriptionHelpFormatter
         )
-        self.set_defaults(tool=name)
 
     def error(self, message):
         raise Bad(f"{message}; {self.prog} --help says more", BAD_WORDS)
