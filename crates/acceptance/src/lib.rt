@@ -4,7 +4,6 @@
 //! `generated` those that a rule writes, and `runs` the way of a text through `corr_run::run`.
 //!
 //! - `reports`, `notions`, `refusals`, `limits`, `cuts` and `families` compare what is printed
-//! - `checked` and `made` do so for verdicts on reports and for generated games
 //! - `equilibria` counts out, over all plans and all deviations, that each distribution that is found is an equilibrium
 //! - `certificates` multiplies out that each side's multipliers bound each column of the program
 //! - `belts` goes round the sides: with the two before, a polygon is neither too small nor too large
@@ -14,8 +13,6 @@
 mod belts;
 #[cfg(test)]
 mod certificates;
-#[cfg(test)]
-mod checked;
 #[cfg(test)]
 mod cuts;
 #[cfg(test)]
@@ -32,8 +29,6 @@ mod games;
 mod generated;
 #[cfg(test)]
 mod limits;
-#[cfg(test)]
-mod made;
 #[cfg(test)]
 mod notions;
 #[cfg(test)]
