@@ -148,3 +148,36 @@ fn cooperation_is_no_equilibrium(rt: HostRuntime) -> Result<(), Fail> {
     }
     Ok(())
 }
+
+/// The weight with which both players take these actions at their first sets.
+fn weight_of(rt: &impl Abort, pairs: &PairList, one: usize, two: usize) -> i128 {
+    let mut sum = 0;
+    for k in 0..pairs.len() {
+        let pair = pairs.at(k);
+        if action_at(&pair.one, 0) == Some(one) && action_at(&pair.two, 0) == Some(two) {
+            sum = plus(rt, sum, pair.weight);
+        }
+    }
+    sum
+}
+
+// At the corner (21/4, 21/4) the pairs of sequences have the values 4, 1, 3, 1, 0, 1, 3, 1, 2, up to a common factor: each dares
+// alone with one part of the weight, and both chicken out with two.
+#[test]
+fn values_are_spread_over_pairs_of_plans(rt: HostRuntime) -> Result<(), Fail> {
+    let opened = open(&rt, rt.alloc(), CHICKEN)?;
+    let (_, block) = solved(&rt, rt.alloc(), &opened, Notion::Efce)?;
+    let Block::Found { corners, .. } = block else {
+        assert!(&rt; false, "a polygon is missing");
+        return Ok(());
+    };
+    assert_eq!(&rt; corners.len(), 4);
+    let corner = corners.at(1);
+    let part = weight_of(&rt, &corner.pairs, 0, 1);
+    let double = plus(&rt, part, part);
+    assert_eq!(&rt; weight_of(&rt, &corner.pairs, 1, 0), part);
+    assert_eq!(&rt; weight_of(&rt, &corner.pairs, 1, 1), double);
+    assert_eq!(&rt; weight_of(&rt, &corner.pairs, 0, 0), 0);
+    assert_eq!(&rt; corner.total, plus(&rt, double, double));
+    Ok(())
+}

@@ -1,4 +1,6 @@
 // Games at the limits of nodes, depth, actions and programs, and one step past them.
+ghost use Rattle.std.specs.Prelude.{◌<◌};
+
 use crate::reports::expect_report;
 use crate::runs::expect_text;
 use corr_run::Status;
