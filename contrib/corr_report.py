@@ -1,7 +1,7 @@
 """Reports and game files as the tools beside `corr` read them, and what these tools share at the command line.
 
-A report is read in the whole of its format, a game file by its grammar alone: whether a report is true, and whether `corr` accepts a game, is for
-`corr` to say. docs/FORMATS.md has both formats.
+A report is read in the whole of its format, a game file by its grammar alone: whether a report is true, and whether `corr` accepts a game,
+is for `corr` to say. docs/FORMATS.md has both formats.
 """
 import argparse
 import os
@@ -56,7 +56,8 @@ class _Lines:
         self.number += 1
         match = re.fullmatch(pattern, line) if line is not None else None
         if match is None:
-            raise Bad(f"the report ends before line {self.number}, {what}" if line is None else f"line {self.number} of the report isn't {what}")
+            ends = f"the report ends before line {self.number}, {what}"
+            raise Bad(ends if line is None else f"line {self.number} of the report isn't {what}")
         self.at += len(line) + 1
         return match.groups()
 
