@@ -1,6 +1,5 @@
 -- Where the first phase is stuck, the multipliers that are read off it show that there is no solution: what they make of a column is
--- Phase's entry with its sign changed. And such multipliers leave no room for a solution, by weak duality; a ready tableau has one,
--- its basic solution.
+-- Phase's entry with its sign changed. A ready tableau has a solution, its basic one.
 use Rattle.std.proofs.Common.{◌≡◌, ◌≢◌, ◌⊎◌, ⊎_elim, inl, inr, ℕ, ◌+◌, ◌<◌, ◌≤◌, List, ℤ, pos, ◌+ℤ◌, ◌-ℤ◌, ◌*ℤ◌, ◌≤ℤ◌, ◌<ℤ◌, neg_ℤ, slice_index_or, length, refl, sym, ap, ◌∙◌, arith}
 use Rattle.std.proofs.lemmas.Bool.{cases_eq, cases_lt}
 use Rattle.std.proofs.lemmas.Int.{ints}
@@ -28,11 +27,12 @@ use Rattle.bland_simplex.proofs.Wholes.{width, side, whole_of}
 use Rattle.bland_simplex.specs.Multipliers.{IsStuck, AreMultipliers, HasNarrowColumns}
 use Rattle.bland_simplex.specs.Ready.{IsUnderWay, IsReady}
 
-opposite_of : (a b : ℤ) → a +ℤ b ≡ pos 0 → a ≡ neg_ℤ b
+pub opposite_of : (a b : ℤ) → a +ℤ b ≡ pos 0 → a ≡ neg_ℤ b
 opposite_of a b none = omega (arith, ints)
 
 module _ (lp : LpView) where
-  units : (k c : ℕ) → k < length lp.rows → c < length lp.rows → start_entry lp c (lp.cols + k) ≡ unit k c
+  -- The artificial columns are the unit vectors.
+  pub units : (k c : ℕ) → k < length lp.rows → c < length lp.rows → start_entry lp c (lp.cols + k) ≡ unit k c
   units k c h l = ⊎_elim
       (λ (e : k ≡ c). rw (← e) (entry_own lp k h ∙ sym (unit-same k)))
       (λ (d : k ≢ c). entry_apart lp c k l h (λ e. d (sym e)) ∙ sym (unit-other k c d))
@@ -101,30 +101,6 @@ module _ (lp : LpView) where
       where
         turned : (a : ℤ) → Narrow a → Narrow (neg_ℤ a)
         turned a small = omega (arith, ints)
-
-  -- Such multipliers leave no room for a solution.
-  pub shown_empty : IsProgram lp → (y : List ℤ) → ShowEmpty lp y → HasSolution lp → ⊥
-  shown_empty program y shows (total, x, positive, solution) =
-      let by_rows = row_matrix_column (length lp.rows) lp.cols (λ r. slice_index_or y r (pos 0)) (λ r j. coefficient lp r j) x in
-      let at_row = λ (r : ℕ). slice_index_or y r (pos 0) *ℤ sum_to lp.cols (λ j. coefficient lp r j *ℤ x j) in
-      let only = sum_to-one (length lp.rows) 0 at_row program.a_row
-      (λ k h d. ap (λ e. slice_index_or y k (pos 0) *ℤ e)
-      (solution.meets k h ∙ (ap (λ e. total *ℤ e) (program.zeros k (omega arith)) ∙ *ℤ-zero total)) ∙ *ℤ-zero
-      (slice_index_or y k (pos 0))) in
-      let own = ap (λ e. slice_index_or y 0 (pos 0) *ℤ e)
-      (solution.meets 0 program.a_row ∙ (ap (λ e. total *ℤ e) program.one ∙ *ℤ-one total)) in
-      let low = sum_to_at_most lp.cols (λ j. times_column lp y j *ℤ x j) (λ j. pos 0)
-      (λ j l. negative (times_column lp y j) (x j) (shows.not_above j l) (solution.not_negative j l)) in
-      let nothing = sum_to-nothing lp.cols (λ j. pos 0) (λ j l. refl) in
-      let high = product_positive shows.above positive in
-      clash (sum_to lp.cols (λ j. times_column lp y j *ℤ x j)) (sum_to (length lp.rows) at_row) (slice_index_or y 0 (pos 0) *ℤ total)
-      (sum_to lp.cols (λ j. pos 0)) by_rows (only ∙ own) low nothing high
-    where
-      negative : (a b : ℤ) → a ≤ℤ pos 0 → pos 0 ≤ℤ b → (a *ℤ b) ≤ℤ pos 0
-      negative a b low over = rw (*ℤ_comm a b) (product_not_positive over low)
-
-      clash : (a b c d : ℤ) → a ≡ b → b ≡ c → a ≤ℤ d → d ≡ pos 0 → pos 0 <ℤ c → ⊥
-      clash a b c d one two low none high = omega (arith, ints)
 
   -- The basic solution of a ready tableau.
   pub ready_solution : (t : Content) → IsReady lp t → HasSolution lp

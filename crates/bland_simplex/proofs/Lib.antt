@@ -1,3 +1,4 @@
+pub mod ArtificialSum
 pub mod Beginning
 pub mod Counting
 pub mod Emptiness

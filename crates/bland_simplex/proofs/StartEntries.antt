@@ -1,6 +1,6 @@
 -- The entries of a program's starting tableau, place by place, and what Phase's costs and the rows' entries come to in a column:
 -- 0 for the program's columns and the right side, 1 for an artificial one.
-use Rattle.std.proofs.Common.{◌≡◌, ◌≢◌, ℕ, ◌+◌, ◌<◌, ℤ, pos, ◌+ℤ◌, neg_ℤ, true, false, nat_lt, nat_eq, length, refl, ◌∙◌, arith, lt-ltb, le-ltb, eq-eqb, ne_eqb}
+use Rattle.std.proofs.Common.{◌≡◌, ◌≢◌, ℕ, ◌+◌, ◌<◌, ◌≤◌, ℤ, pos, ◌+ℤ◌, neg_ℤ, true, false, nat_lt, nat_eq, length, refl, ◌∙◌, arith, lt-ltb, le-ltb, eq-eqb, ne_eqb}
 use Rattle.std.proofs.lemmas.Int.{ints}
 use Rattle.exact_algebra.proofs.Sums.{sum_to-same, sum_to-one}
 use Rattle.exact_algebra.specs.Sums.{sum_to}
@@ -52,12 +52,16 @@ module _ (lp : LpView) where
       let in_columns : nat_lt col lp.cols ≡ true = lt-ltb col lp.cols l in
       rw (behind, first, in_columns)
 
-  pub first_right : start_entry lp (length lp.rows) (lp.cols + length lp.rows) ≡ pos 0
-  first_right =
+  -- the payoffs are free behind the program's columns
+  pub first_behind : (col : ℕ) → lp.cols ≤ col → start_entry lp (length lp.rows) col ≡ pos 0
+  first_behind col h =
       let behind : nat_lt (length lp.rows) (length lp.rows) ≡ false = le-ltb (length lp.rows) (length lp.rows) (omega arith) in
       let first : nat_eq (length lp.rows) (length lp.rows) ≡ true = eq-eqb (length lp.rows) (length lp.rows) refl in
-      let past : nat_lt (lp.cols + length lp.rows) lp.cols ≡ false = le-ltb (lp.cols + length lp.rows) lp.cols (omega arith) in
+      let past : nat_lt col lp.cols ≡ false = le-ltb col lp.cols h in
       rw (behind, first, past)
+
+  pub first_right : start_entry lp (length lp.rows) (lp.cols + length lp.rows) ≡ pos 0
+  first_right = first_behind (lp.cols + length lp.rows) (omega arith)
 
   pub second_program : (col : ℕ) → col < lp.cols → start_entry lp (length lp.rows + 1) col ≡ neg_ℤ (payoff_of Two lp col)
   second_program col l =
@@ -66,12 +70,15 @@ module _ (lp : LpView) where
       let in_columns : nat_lt col lp.cols ≡ true = lt-ltb col lp.cols l in
       rw (not_program 1, not_first, second, in_columns)
 
-  pub second_right : start_entry lp (length lp.rows + 1) (lp.cols + length lp.rows) ≡ pos 0
-  second_right =
+  pub second_behind : (col : ℕ) → lp.cols ≤ col → start_entry lp (length lp.rows + 1) col ≡ pos 0
+  second_behind col h =
       let not_first : nat_eq (length lp.rows + 1) (length lp.rows) ≡ false = ne_eqb (length lp.rows + 1) (length lp.rows) (omega arith) in
       let second : nat_eq (length lp.rows + 1) (length lp.rows + 1) ≡ true = eq-eqb (length lp.rows + 1) (length lp.rows + 1) refl in
-      let past : nat_lt (lp.cols + length lp.rows) lp.cols ≡ false = le-ltb (lp.cols + length lp.rows) lp.cols (omega arith) in
+      let past : nat_lt col lp.cols ≡ false = le-ltb col lp.cols h in
       rw (not_program 1, not_first, second, past)
+
+  pub second_right : start_entry lp (length lp.rows + 1) (lp.cols + length lp.rows) ≡ pos 0
+  second_right = second_behind (lp.cols + length lp.rows) (omega arith)
 
   not_first_too : nat_eq (length lp.rows + 2) (length lp.rows) ≡ false
   not_first_too = ne_eqb (length lp.rows + 2) (length lp.rows) (omega arith)

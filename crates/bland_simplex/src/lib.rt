@@ -15,7 +15,7 @@ mod shapes;
 mod turning;
 
 pub use first_phase::{Found, feasible};
-pub use laws::ready_tableaus_are_lowered;
+pub use laws::{phase_is_the_artificial_sum, ready_tableaus_are_lowered};
 pub use lp_form::NumList;
 pub use plane_hull::Dir;
 pub use shapes::Shape;

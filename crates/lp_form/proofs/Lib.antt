@@ -1,4 +1,5 @@
 pub mod Bounding
+pub mod Certified
 pub mod Joining
 pub mod Placing
 pub mod Solving

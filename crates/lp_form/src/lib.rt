@@ -8,11 +8,13 @@
 #![tactic(auto)]
 
 mod entries;
+mod laws;
 mod numbers;
 mod places;
 mod programs;
 
 pub use entries::Entry;
+pub use laws::{certified_directions_are_bounded, shown_programs_are_empty};
 pub use numbers::NumList;
 pub use places::{Place, RowName};
 pub use programs::Lp;

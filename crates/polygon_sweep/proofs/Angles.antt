@@ -6,7 +6,7 @@ use Rattle.exact_algebra.proofs.Order.{at_most_or_above, product_not_negative, p
 use Rattle.exact_algebra.proofs.RingLaws.{*ℤ_comm, *ℤ-zero}
 use Rattle.exact_algebra.proofs.RingTactic.{ring_laws, linear}
 use Rattle.plane_hull.specs.declared.directions.Dir.{Dir}
-use Rattle.polygon_sweep.specs.Turning.{cross, dot, IsAhead, IsAxis, IsBoundOf, TurnsTo}
+use Rattle.polygon_sweep.specs.Turning.{cross, dot, IsAhead, IsBoundOf, IsBoundOrNone, IsUpTo, TurnsTo}
 
 areas : (a b c d e f g h : ℤ) → cross a b e f *ℤ cross c d g h ≡ cross a b c d *ℤ cross e f g h +ℤ cross a b g h *ℤ cross c d e f
 areas a b c d e f g h = simp ring_laws (omega (arith, linear))
@@ -52,6 +52,10 @@ ahead_left dir bound other ahead left before = by (at_most_or_above (cross dir.a
 at_least_0 : (x : ℤ) → pos 0 <ℤ x → pos 0 ≤ℤ x
 at_least_0 x h = omega (arith, ints)
 
+pub stays_over : (x : ℤ) → (x <ℤ pos 0 → ⊥) → pos 0 ≤ℤ x
+stays_over (pos n) h = omega (arith, ints)
+stays_over (negsuc n) h = absurd (h (omega (arith, ints)))
+
 sum_positive : (x y z : ℤ) → x ≡ y +ℤ z → pos 0 ≤ℤ y → pos 0 <ℤ z → pos 0 <ℤ x
 sum_positive x y z e h k = omega (arith, ints)
 
@@ -72,13 +76,13 @@ turns_sooner dir bound other ahead turns before =
 
 -- ---- the bound of a column that doesn't improve
 
+along : (a b x y f s by : ℤ) → x *ℤ by ≡ pos 0 -ℤ s → y *ℤ by ≡ f → by *ℤ cross a b x y ≡ a *ℤ f +ℤ b *ℤ s
+along a b x y f s by x_is y_is = let one : y *ℤ by ≡ f = y_is in let two : s ≡ pos 0 -ℤ x *ℤ by = omega (arith, ints) in rw (two, ← one) (simp ring_laws (omega (arith, linear)))
+
+across : (a b x y f s by : ℤ) → x *ℤ by ≡ pos 0 -ℤ s → y *ℤ by ≡ f → by *ℤ dot a b x y ≡ pos 0 -ℤ (a *ℤ s -ℤ b *ℤ f)
+across a b x y f s by x_is y_is = let one : y *ℤ by ≡ f = y_is in let two : s ≡ pos 0 -ℤ x *ℤ by = omega (arith, ints) in rw (two, ← one) (simp ring_laws (omega (arith, linear)))
+
 module _ (dir bound : Dir) (first second : ℤ) (is : IsBoundOf first second bound) where
-  along : (a b x y f s by : ℤ) → x *ℤ by ≡ pos 0 -ℤ s → y *ℤ by ≡ f → by *ℤ cross a b x y ≡ a *ℤ f +ℤ b *ℤ s
-  along a b x y f s by x_is y_is = let one : y *ℤ by ≡ f = y_is in let two : s ≡ pos 0 -ℤ x *ℤ by = omega (arith, ints) in rw (two, ← one) (simp ring_laws (omega (arith, linear)))
-
-  across : (a b x y f s by : ℤ) → x *ℤ by ≡ pos 0 -ℤ s → y *ℤ by ≡ f → by *ℤ dot a b x y ≡ pos 0 -ℤ (a *ℤ s -ℤ b *ℤ f)
-  across a b x y f s by x_is y_is = let one : y *ℤ by ≡ f = y_is in let two : s ≡ pos 0 -ℤ x *ℤ by = omega (arith, ints) in rw (two, ← one) (simp ring_laws (omega (arith, linear)))
-
   ahead_of_bound : ((a_first : (dir.a *ℤ first +ℤ dir.b *ℤ second) <ℤ pos 0) → ⊥) → (dir.a *ℤ first +ℤ dir.b *ℤ second ≡ pos 0 → (dir.a *ℤ second -ℤ dir.b *ℤ first) <ℤ pos 0 → ⊥) → IsAhead dir bound
   ahead_of_bound not_below not_level = record { left = left; behind = behind }
     where
@@ -88,20 +92,49 @@ module _ (dir bound : Dir) (first second : ℤ) (is : IsBoundOf first second bou
       turned : is.by *ℤ dot dir.a dir.b bound.a bound.b ≡ pos 0 -ℤ (dir.a *ℤ second -ℤ dir.b *ℤ first)
       turned = across dir.a dir.b bound.a bound.b first second is.by is.a is.b
 
-      at_least : (x : ℤ) → (x <ℤ pos 0 → ⊥) → pos 0 ≤ℤ x
-      at_least (pos n) h = omega (arith, ints)
-      at_least (negsuc n) h = absurd (h (omega (arith, ints)))
-
       left : pos 0 ≤ℤ cross dir.a dir.b bound.a bound.b
-      left = factor_not_negative is.by is.positive (rw reduced (at_least _ not_below))
+      left = factor_not_negative is.by is.positive (rw reduced (stays_over _ not_below))
 
       behind : cross dir.a dir.b bound.a bound.b ≡ pos 0 → dot dir.a dir.b bound.a bound.b ≤ℤ pos 0
       behind level =
           let none : dir.a *ℤ first +ℤ dir.b *ℤ second ≡ pos 0 = sym reduced ∙ (ap (λ e. is.by *ℤ e) level ∙ *ℤ-zero is.by) in
-          let high = at_least _ (not_level none) in
+          let high = stays_over _ (not_level none) in
           factor_not_positive is.by is.positive (rw turned (omega (arith, ints)))
 
 -- where there is a bound
-pub bound_ahead : (dir : Dir) (first second : ℤ) (bound : Option Dir) → IfSome bound (IsBoundOf first second) → ((dir.a *ℤ first +ℤ dir.b *ℤ second) <ℤ pos 0 → ⊥) → (dir.a *ℤ first +ℤ dir.b *ℤ second ≡ pos 0 → (dir.a *ℤ second -ℤ dir.b *ℤ first) <ℤ pos 0 → ⊥) → IfSome bound (IsAhead dir)
-bound_ahead dir first second None is not_below not_level = is
+pub bound_ahead : (dir : Dir) (first second : ℤ) (bound : Option Dir) → IsBoundOrNone first second bound → ((dir.a *ℤ first +ℤ dir.b *ℤ second) <ℤ pos 0 → ⊥) → (dir.a *ℤ first +ℤ dir.b *ℤ second ≡ pos 0 → (dir.a *ℤ second -ℤ dir.b *ℤ first) <ℤ pos 0 → ⊥) → IfSome bound (IsAhead dir)
+bound_ahead dir first second None is not_below not_level = tt
 bound_ahead dir first second (Some bound) is not_below not_level = ahead_of_bound dir bound first second is not_below not_level
+
+-- ---- directions up to the bounds
+
+pub not_before : (a b c d : ℤ) → (pos 0 <ℤ cross a b c d → ⊥) → pos 0 ≤ℤ cross c d a b
+not_before a b c d none = by (at_most_or_above (cross a b c d) (pos 0))
+  where
+    by : (cross a b c d ≤ℤ pos 0) ⊎ (pos 0 <ℤ cross a b c d) → pos 0 ≤ℤ cross c d a b
+    by (inl low) = omega (arith, ints)
+    by (inr above) = absurd (none above)
+
+pub itself : (a b : ℤ) → pos 0 ≤ℤ cross a b a b
+itself a b = omega (arith, ints)
+
+-- up to its bound a column costs nothing less than 0
+pub costs_up_to : (found : Dir) (first second : ℤ) (bound : Option Dir) → IsBoundOrNone first second bound → IfSome bound (IsUpTo found) → pos 0 ≤ℤ (found.a *ℤ first +ℤ found.b *ℤ second)
+costs_up_to found first second None is up_to = rw (is.0, is.1, *ℤ-zero found.a, *ℤ-zero found.b) (omega (arith, ints))
+costs_up_to found first second (Some bound) is up_to =
+    let same = along found.a found.b bound.a bound.b first second is.by is.a is.b in
+    rw (← same) (product_not_negative (at_least_0 is.by is.positive) up_to)
+
+-- between two directions a column costs what it does at both, in parts of 0 or more
+pub costs_between : (dir other found : Dir) (first second : ℤ) → pos 0 <ℤ cross dir.a dir.b other.a other.b → pos 0 <ℤ cross dir.a dir.b found.a found.b → IsUpTo found other
+    → pos 0 ≤ℤ (dir.a *ℤ first +ℤ dir.b *ℤ second) → pos 0 ≤ℤ (other.a *ℤ first +ℤ other.b *ℤ second) → pos 0 ≤ℤ (found.a *ℤ first +ℤ found.b *ℤ second)
+costs_between dir other found first second left sooner up_to here there =
+    factor_not_negative (cross dir.a dir.b other.a other.b) left
+    (rw (parts dir.a dir.b other.a other.b found.a found.b first second)
+    (both _ _ (product_not_negative up_to here) (product_not_negative (at_least_0 _ sooner) there)))
+  where
+    parts : (a b c d x y f s : ℤ) → cross a b c d *ℤ (x *ℤ f +ℤ y *ℤ s) ≡ cross x y c d *ℤ (a *ℤ f +ℤ b *ℤ s) +ℤ cross a b x y *ℤ (c *ℤ f +ℤ d *ℤ s)
+    parts a b c d x y f s = simp ring_laws (omega (arith, linear))
+
+    both : (p q : ℤ) → pos 0 ≤ℤ p → pos 0 ≤ℤ q → pos 0 ≤ℤ (p +ℤ q)
+    both p q low high = omega (arith, ints)

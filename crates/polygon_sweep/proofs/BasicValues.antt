@@ -1,5 +1,5 @@
 -- The values of a basic solution, put in row by row: no two rows have one basic column.
-use Rattle.std.proofs.Common.{◌≡◌, ◌≢◌, ⊎_elim, ℕ, ◌+◌, ◌<◌, ◌≤◌, List, length, ℤ, pos, ◌+ℤ◌, All, cond, nat_eq, true, false, eq-eqb, ne_eqb, slice_index_or, replicate, refl, sym, ap, ◌∙◌, arith}
+use Rattle.std.proofs.Common.{◌≡◌, ◌≢◌, ⊎_elim, ℕ, ◌+◌, ◌<◌, List, length, ℤ, pos, ◌+ℤ◌, All, cond, nat_eq, true, false, eq-eqb, ne_eqb, slice_index_or, replicate, sym, ◌∙◌, arith}
 use Rattle.std.proofs.lemmas.Bool.{cases_eq, cond-true, cond-false}
 use Rattle.std.proofs.lemmas.Int.{ints}
 use Rattle.std.proofs.lemmas.List.{get_or-replicate, length-replicate}

@@ -1,6 +1,7 @@
 mod Angles
 mod Axes
 mod BasicValues
+mod Certifying
 mod Divisors
 mod Growing
 mod Mixtures

@@ -1,11 +1,9 @@
 -- Where one row sums all columns to 1 no number passes the total, so that what is paid is bounded.
-use Rattle.std.proofs.Common.{◌≡◌, ◌≢◌, ⊎_elim, inr, ℕ, ◌+◌, ◌<◌, length, ℤ, pos, ◌*ℤ◌, ◌≤ℤ◌, sym, ap, ◌∙◌, arith}
+use Rattle.std.proofs.Common.{◌≡◌, ◌≢◌, ⊎_elim, ℕ, ◌+◌, ◌<◌, length, ℤ, pos, ◌*ℤ◌, sym, ap, ◌∙◌, arith}
 use Rattle.std.proofs.lemmas.Bool.{cases_eq}
-use Rattle.std.proofs.lemmas.Int.{ints}
 use Rattle.exact_algebra.proofs.RingTactic.{ring_laws, linear}
 use Rattle.exact_algebra.proofs.SumOrder.{term_at_most}
 use Rattle.exact_algebra.proofs.Sums.{sum_to-same}
-use Rattle.exact_algebra.specs.Sums.{sum_to}
 use Rattle.lp_form.proofs.Bounding.{bounded_by_total}
 use Rattle.lp_form.specs.Program.{LpView, coefficient, right_of}
 use Rattle.lp_form.specs.Solutions.{HasBoundedPayoffs}

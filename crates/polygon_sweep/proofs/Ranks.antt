@@ -1,6 +1,6 @@
 -- A direction's rank rises as it turns: the quarters of the turn count, and within one the slope from the quarter's first axis. Two
 -- slopes of numbers up to n differ by 1 / (n * n) at least, so that n * n times the slope, rounded down, rises too.
-use Rattle.std.proofs.Common.{◌≡◌, ◌⊎◌, inl, inr, subst, ℕ, zero, suc, ◌+◌, ◌-◌, ◌*◌, ◌/◌, ◌^◌, ◌<◌, ◌≤◌, ℤ, pos, negsuc, neg_ℤ, ◌+ℤ◌, ◌-ℤ◌, ◌*ℤ◌, ◌<ℤ◌, ◌≤ℤ◌, unsigned_abs, refl, arith}
+use Rattle.std.proofs.Common.{◌≡◌, ◌⊎◌, inl, inr, subst, ℕ, ◌+◌, ◌-◌, ◌*◌, ◌/◌, ◌^◌, ◌<◌, ◌≤◌, ℤ, pos, negsuc, neg_ℤ, ◌*ℤ◌, ◌<ℤ◌, ◌≤ℤ◌, unsigned_abs, refl, arith}
 use Rattle.std.specs.Int.{IsGcd}
 use Rattle.std.proofs.Math.Nat.{div-mul-le_self, div-le_self, mul-le-mul_right, mul-le-mul_left, le_of_dvd, le_of_mul-le-mul_right}
 use Rattle.std.proofs.lemmas.Nat.{le-div}

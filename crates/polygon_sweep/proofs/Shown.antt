@@ -1,9 +1,7 @@
 -- What a ready tableau shows: its basic solution is one of the program, and First and Second hold what it pays.
-use Rattle.std.proofs.Common.{◌≡◌, ◌⊎◌, inl, inr, ⊎_elim, ℕ, ◌+◌, ◌<◌, ◌≤◌, List, length, All, ℤ, pos, ◌*ℤ◌, neg_ℤ, slice_index_or, refl, sym, ap, ◌∙◌, arith}
+use Rattle.std.proofs.Common.{◌≡◌, ◌⊎◌, inl, inr, ⊎_elim, ℕ, ◌+◌, ◌<◌, ◌≤◌, List, length, All, ℤ, pos, ◌*ℤ◌, refl, sym, ap, ◌∙◌, arith}
 use Rattle.std.proofs.lemmas.Bool.{cases_lt}
 use Rattle.exact_algebra.proofs.Sums.{sum_to-same}
-use Rattle.exact_algebra.specs.Sums.{sum_to}
-use Rattle.corr_game.specs.declared.sides.Side.{Side}
 use Rattle.corr_game.specs.declared.sides.Side.TheVariants.{One, Two}
 use Rattle.exact_linear.proofs.Optimality.{basic_payoff}
 use Rattle.exact_linear.proofs.Solutions.{basic_solution}
@@ -12,12 +10,12 @@ use Rattle.exact_linear.specs.Simplex as simplex
 use Rattle.exact_linear.specs.Simplex.{basic_value}
 use Rattle.exact_linear.specs.Tableau.{column}
 use Rattle.corr_num.specs.Narrow.{Narrow}
-use Rattle.lp_form.specs.Program.{LpView, coefficient, payoff_of, right_of}
+use Rattle.lp_form.specs.Program.{LpView, coefficient, payoff_of}
 use Rattle.lp_form.specs.Solutions.{IsSolution, paid}
 use Rattle.int_tableau.specs.Content.{Content}
 use Rattle.int_tableau.specs.Start.{start_entry}
 use Rattle.bland_simplex.proofs.StartEntries.{entry_program, entry_right, first_program, first_right, second_program, second_right}
-use Rattle.bland_simplex.proofs.Wholes.{side, whole_of, width}
+use Rattle.bland_simplex.proofs.Wholes.{side, whole_of}
 use Rattle.bland_simplex.specs.Ready.{IsReady}
 use Rattle.polygon_sweep.specs.declared.corners.SweptCorner.{SweptCorner}
 use Rattle.polygon_sweep.specs.Swept.{IsCornerOf, number_in}

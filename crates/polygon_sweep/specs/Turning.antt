@@ -1,5 +1,5 @@
 -- Directions that turn counter-clockwise from axis to axis (as in the parametric simplex method, Gass and Saaty 1955).
-use Rattle.std.specs.Prelude.{◌≡◌, ◌⊎◌, ℤ, pos, negsuc, ◌+ℤ◌, ◌-ℤ◌, ◌*ℤ◌, ◌<ℤ◌, ◌≤ℤ◌}
+use Rattle.std.specs.Prelude.{◌≡◌, ◌⊎◌, Option, Some, None, ℤ, pos, negsuc, ◌+ℤ◌, ◌-ℤ◌, ◌*ℤ◌, ◌<ℤ◌, ◌≤ℤ◌}
 use Rattle.plane_hull.specs.declared.directions.Dir.{Dir}
 
 -- above 0 where (c, d) lies to the left of (a, b), by less than half a turn
@@ -33,6 +33,15 @@ pub record IsBoundOf (first second : ℤ) (bound : Dir) : Type 0 where
   pub positive : pos 0 <ℤ by
   pub a : bound.a *ℤ by ≡ pos 0 -ℤ second
   pub b : bound.b *ℤ by ≡ first
+
+-- the direction to which a column's costs lead, or none where it costs nothing
+abbrev pub IsBoundOrNone : ℤ → ℤ → Option Dir → Type 0
+IsBoundOrNone first second None = (first ≡ pos 0) × (second ≡ pos 0)
+IsBoundOrNone first second (Some bound) = IsBoundOf first second bound
+
+-- a direction doesn't lie to the left of another one
+abbrev pub IsUpTo : Dir → Dir → Type 0
+IsUpTo dir other = pos 0 ≤ℤ cross dir.a dir.b other.a other.b
 
 -- the whole turn is done
 abbrev pub IsFullTurn : Dir → Type 0

@@ -2,11 +2,11 @@
 ghost use Rattle.std.specs.Prelude.{◌≡◌, ◌↔◌, ℤ, pos, ◌<ℤ◌, ◌-ℤ◌, ◌*ℤ◌, unsigned_abs, IfSome, IsTrue};
 ghost use Rattle.std.specs.Int.{IsGcd};
 ghost use Rattle.corr_num.specs.Narrow.{Narrow};
-ghost use Rattle.polygon_sweep.specs.Swept.{IsCoprime};
-ghost use Rattle.polygon_sweep.specs.Turning.{IsAhead, IsBoundOf, TurnsTo, cross};
+ghost use Rattle.polygon_sweep.specs.Turning.{IsAhead, IsBoundOrNone, IsUpTo, TurnsTo, cross};
 ghost use Rattle.plane_hull.specs.declared.directions.Dir.{Dir};
 ghost use Rattle.bland_simplex.specs.Improving.{IsOptimal};
 ghost use Rattle.bland_simplex.specs.Open.{IsOpen};
+ghost use Rattle.polygon_sweep.specs.Swept.{IsBounding, IsCoprime};
 
 use bland_simplex::Shape;
 use corr_num::{cmp_products, gcd, quotient};
@@ -67,7 +67,7 @@ fn bound_of(first: i128, second: i128) -> Option<Dir>
     requires first { Narrow first }
     requires second { Narrow second }
     ensures coprime { IfSome result IsCoprime }
-    ensures bound { IfSome result (IsBoundOf first second) }
+    ensures bound { IsBoundOrNone first second result }
 {
     if first == 0 && second == 0 {
         None
@@ -89,6 +89,8 @@ fn first_met(bound: Option<Dir>, other: Dir) -> Dir
     requires other { IsCoprime other }
     ensures coprime { IsCoprime result }
     ensures turns { (dir : Dir) → IfSome bound (IsAhead dir) → TurnsTo dir other → TurnsTo dir result }
+    ensures not_behind { IfSome bound (IsUpTo result) }
+    ensures sooner { IsUpTo result other }
 {
     let Some(bound) = bound else {
         return other;
@@ -108,6 +110,7 @@ pub fn next_direction<T: Tableau>(table: &T, shape: Shape, dir: &Dir) -> Dir
     requires coprime { IsCoprime dir.now }
     ensures coprime { IsCoprime result }
     ensures turns { TurnsTo dir.now result }
+    ensures bounds { IsBounding (T.content table.now) shape.rows shape.cols result }
 {
     let mut next = axis_behind(dir);
     for col in 0..shape.cols {

@@ -1,10 +1,12 @@
 // What a tableau shows: a corner with its solution, and the multipliers of a side.
-ghost use Rattle.std.specs.Prelude.{◌≡◌, ℕ, ◌+◌, ◌<◌, ◌≤◌, IfOk, length, All, cond, nat_eq, pos, slice_index_or};
+ghost use Rattle.std.specs.Prelude.{◌≡◌, ◌↔◌, IsTrue, ◌*ℤ◌, ℕ, ◌+◌, ◌<◌, ◌≤◌, IfOk, length, All, cond, nat_eq, pos, slice_index_or};
 ghost use Rattle.exact_linear.specs.Simplex.{basic_value};
 ghost use Rattle.bland_simplex.specs.Ready.{IsReady};
 ghost use Rattle.bland_simplex.specs.Open.{IsOpen};
 ghost use Rattle.corr_num.specs.Narrow.{Narrow};
-ghost use Rattle.polygon_sweep.specs.Swept.{IsCoprime, IsCornerOf, IsSideAt};
+ghost use Rattle.lp_form.specs.Program.{IsProgram};
+ghost use Rattle.polygon_sweep.specs.Swept.{AreEntries, IsBounding, IsCoprime, IsCornerOf, IsPointOf, IsSideOf, Reaches};
+ghost use Rattle.polygon_sweep.specs.declared.corners.SweptCorner.{SweptCorner};
 
 use crate::corners::SweptCorner;
 use bland_simplex::Shape;
@@ -60,7 +62,8 @@ fn listed(alloc: Global, values: &[i128]) -> Result<NumList, NoMemory>
 /// The corner that the tableau's basic solution reaches.
 pub fn corner_at<T: Tableau>(alloc: Global, lp: &Lp, table: &T) -> Result<SweptCorner, NoMemory>
     requires { IsReady lp.now (T.content table.now) }
-    ensures { IfOk result (IsCornerOf lp.now) }
+    ensures corner { IfOk result (IsCornerOf lp.now) }
+    ensures reached { IfOk result (Reaches (T.content table.now) (length lp.now.rows) (lp.now.cols + length lp.now.rows)) }
 {
     let shape = Shape::of(lp);
     let right = shape.cols + shape.rows;
@@ -73,23 +76,30 @@ pub fn corner_at<T: Tableau>(alloc: Global, lp: &Lp, table: &T) -> Result<SweptC
     })
 }
 
+/// Whether two products are equal.
+fn are_equal(a: i128, b: i128, c: i128, d: i128) -> bool
+    requires a_narrow { Narrow a }
+    requires b_narrow { Narrow b }
+    requires c_narrow { Narrow c }
+    requires d_narrow { Narrow d }
+    ensures { IsTrue result ↔ (a *ℤ b ≡ c *ℤ d) }
+{
+    cmp_products(a, b, c, d) == Ordering::Equal
+}
+
 /// Whether the tableau's basic solution reaches the same payoffs as this corner.
 pub fn reaches<T: Tableau>(table: &T, shape: Shape, corner: &SweptCorner) -> bool
     requires open { IsOpen shape.rows shape.cols (T.content table.now) }
     requires one { Narrow corner.now.one }
     requires two { Narrow corner.now.two }
     requires den { Narrow corner.now.den }
+    ensures { IsTrue result ↔ Reaches (T.content table.now) shape.rows (shape.cols + shape.rows) corner.now }
 {
     let right = shape.cols + shape.rows;
     let den = table.denom();
-    let one = cmp_products(table.entry(shape.rows, right), corner.den, corner.one, den);
-    let two = cmp_products(
-        table.entry(shape.rows + 1, right),
-        corner.den,
-        corner.two,
-        den,
-    );
-    one == Ordering::Equal && two == Ordering::Equal
+    let one = table.entry(shape.rows, right);
+    let two = table.entry(shape.rows + 1, right);
+    are_equal(one, corner.den, corner.one, den) && are_equal(two, corner.den, corner.two, den)
 }
 
 /// The entries of one row in the artificial columns.
@@ -101,8 +111,7 @@ fn multipliers<T: Tableau>(
 ) -> Result<NumList, NoMemory>
     requires open { IsOpen shape.rows shape.cols (T.content table.now) }
     requires in_rows { row < shape.rows + 3 }
-    ensures count { IfOk result (λ list. length list ≡ shape.rows) }
-    ensures narrow { IfOk result (All Narrow) }
+    ensures { IfOk result (AreEntries (T.content table.now) row shape.cols shape.rows) }
 {
     let mut list = NumList::with_capacity(alloc, shape.rows as usize)?;
     for col in 0..shape.rows {
@@ -111,18 +120,22 @@ fn multipliers<T: Tableau>(
     Ok(list)
 }
 
-/// The side in this direction at the corner with this number, which the tableau reaches.
+/// The side in this direction at a corner that the tableau reaches, whose number is given too.
 pub fn side_at<T: Tableau>(
     alloc: Global,
+    lp: &Lp,
     table: &T,
-    shape: Shape,
     dir: Dir,
     corner: usize,
 ) -> Result<SideRow, NoMemory>
-    requires open { IsOpen shape.rows shape.cols (T.content table.now) }
+    requires ready { IsReady lp.now (T.content table.now) }
     requires coprime { IsCoprime dir }
-    ensures { IfOk result (λ side. IsSideAt shape.rows corner side) }
+    requires bounding { IsBounding (T.content table.now) (length lp.now.rows) lp.now.cols dir }
+    ensures side { IfOk result (IsSideOf lp.now) }
+    ensures number { IfOk result (λ side. side.corner ≡ corner) }
+    ensures point { IfOk result (λ side. (found : SweptCorner) → IsProgram lp.now → Reaches (T.content table.now) (length lp.now.rows) (lp.now.cols + length lp.now.rows) found → IsPointOf side found) }
 {
+    let shape = Shape::of(lp);
     Ok(SideRow {
         dir,
         corner,

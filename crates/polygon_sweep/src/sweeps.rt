@@ -1,9 +1,9 @@
-ghost use Rattle.std.specs.Prelude.{◌≡◌, ◌↔◌, ℕ, ◌<◌, OnOk, IfOk, IsTrue, length};
+ghost use Rattle.std.specs.Prelude.{◌≡◌, ◌↔◌, ℕ, ◌<◌, OnOk, IfOk, IsTrue, Some, length, slice_get};
 ghost use Rattle.lp_form.specs.Program.{LpView};
 ghost use Rattle.lp_form.specs.Solutions.{HasBoundedPayoffs};
 ghost use Rattle.bland_simplex.specs.Improving.{IsOptimal};
 ghost use Rattle.bland_simplex.specs.Ready.{IsReady};
-ghost use Rattle.polygon_sweep.specs.Swept.{IsCoprime, IsCornerOf, IsSideAmong, IsSwept};
+ghost use Rattle.polygon_sweep.specs.Swept.{IsAt, IsBounding, IsCoprime, IsCornerOf, IsGrown, IsSideAmong, IsSwept};
 ghost use Rattle.polygon_sweep.specs.Turning.{IsFullTurn};
 
 use crate::bearings::next_direction;
@@ -25,21 +25,24 @@ fn is_full_turn(dir: &Dir) -> bool
     dir.a == 1 && dir.b == 0
 }
 
-/// The first corner with its first side, in a tableau that is optimal for (1, 0).
-fn begin<T: Tableau>(alloc: Global, lp: &Lp, table: &T) -> Result<Swept, NoMemory>
-    requires { IsReady lp.now (T.content table.now) }
-    ensures { IfOk result (IsSwept lp.now) }
+/// The first corner with its first side, in a tableau that bounds the first direction.
+fn begin<T: Tableau>(alloc: Global, lp: &Lp, table: &T, dir: Dir) -> Result<Swept, NoMemory>
+    requires ready { IsReady lp.now (T.content table.now) }
+    requires coprime { IsCoprime dir }
+    requires bounding { IsBounding (T.content table.now) (length lp.now.rows) lp.now.cols dir }
+    ensures begun { IfOk result (IsSwept lp.now) }
+    ensures at { IfOk result (λ swept. IsAt lp.now (T.content table.now) swept.corners 0) }
 {
-    let shape = Shape::of(lp);
     let mut corners = CornerList::new(alloc);
     corners.push(corner_at(alloc, lp, table)?)?;
     let mut sides = SideList::new(alloc);
-    sides.push(side_at(alloc, table, shape, Dir { a: 1, b: 0 }, 0)?)?;
+    sides.push(side_at(alloc, lp, table, dir, 0)?)?;
     Ok(Swept { corners, sides })
 }
 
 fn add_corner(swept: &mut Swept, corner: SweptCorner) -> Result<usize, NoMemory>
-    ensures last { IfOk result (λ k. (k < length swept.new.corners) × (length swept.old.corners < length swept.new.corners)) }
+    ensures last { IfOk result (λ k. slice_get swept.new.corners k ≡ Some corner) }
+    ensures grown { OnOk result (IsGrown swept.old.corners swept.new.corners) }
     ensures kept { OnOk result ((lp : LpView) → IsSwept lp swept.old → IsCornerOf lp corner → IsSwept lp swept.new) }
 {
     let last = swept.corners.len();
@@ -49,7 +52,7 @@ fn add_corner(swept: &mut Swept, corner: SweptCorner) -> Result<usize, NoMemory>
 
 fn add_side(swept: &mut Swept, side: SideRow) -> Result<(), NoMemory>
     ensures corners { OnOk result (swept.new.corners ≡ swept.old.corners) }
-    ensures kept { OnOk result ((lp : LpView) → IsSwept lp swept.old → IsSideAmong (length lp.rows) (length swept.old.corners) side → IsSwept lp swept.new) }
+    ensures kept { OnOk result ((lp : LpView) → IsSwept lp swept.old → IsSideAmong lp swept.old.corners side → IsSwept lp swept.new) }
 {
     swept.sides.push(side)?;
     Ok(())
@@ -66,8 +69,8 @@ fn arrive<T: Tableau>(
     requires ready { IsReady lp.now (T.content table.now) }
     requires present { present < length swept.old.corners }
     requires before { IsSwept lp.now swept.old }
-    ensures present { OnOk result (present < length swept.new.corners) }
-    ensures reached { IfOk result (λ k. k < length swept.new.corners) }
+    ensures grown { OnOk result (IsGrown swept.old.corners swept.new.corners) }
+    ensures reached { IfOk result (IsAt lp.now (T.content table.now) swept.new.corners) }
     ensures after { OnOk result (IsSwept lp.now swept.new) }
 {
     let shape = Shape::of(lp);
@@ -81,7 +84,7 @@ fn arrive<T: Tableau>(
     Ok(last)
 }
 
-/// Turns on to the next direction, where the tableau is optimal for the one before: adds the side at the present corner,
+/// Turns on to the next direction, which the tableau still bounds: adds the side at the present corner,
 /// where the direction is an axis or an edge leads on, and the next corner with the same side where one does. The number of
 /// the corner that was reached.
 fn turn<T: Tableau>(
@@ -95,15 +98,15 @@ fn turn<T: Tableau>(
     requires ready { IsReady lp.now (T.content table.old) }
     requires bounded { HasBoundedPayoffs lp.now }
     requires coprime { IsCoprime dir }
-    requires present { present < length swept.old.corners }
+    requires bounding { IsBounding (T.content table.old) (length lp.now.rows) lp.now.cols dir }
+    requires present { IsAt lp.now (T.content table.old) swept.old.corners present }
     requires before { IsSwept lp.now swept.old }
     ensures ready { OnOk result (IsReady lp.now (T.content table.new)) }
     ensures optimal { OnOk result (IsOptimal (T.content table.new) (length lp.now.rows) lp.now.cols dir) }
-    ensures reached { IfOk result (λ k. k < length swept.new.corners) }
+    ensures reached { IfOk result (IsAt lp.now (T.content table.new) swept.new.corners) }
     ensures after { OnOk result (IsSwept lp.now swept.new) }
 {
-    let shape = Shape::of(lp);
-    let side = side_at(alloc, table, shape, dir, present)?;
+    let side = side_at(alloc, lp, table, dir, present)?;
     best(lp, table, &dir)?;
     let reached = arrive(alloc, lp, table, present, swept)?;
     if reached == present && !is_axis(&dir) {
@@ -113,7 +116,7 @@ fn turn<T: Tableau>(
     if reached == present {
         return Ok(present);
     }
-    add_side(swept, side_at(alloc, table, shape, dir, reached)?)?;
+    add_side(swept, side_at(alloc, lp, table, dir, reached)?)?;
     Ok(reached)
 }
 
@@ -122,11 +125,14 @@ fn close<T: Tableau>(
     alloc: Global,
     lp: &Lp,
     table: &T,
+    dir: Dir,
     present: usize,
     swept: Swept,
 ) -> Result<Swept, NoMemory>
     requires ready { IsReady lp.now (T.content table.now) }
-    requires present { present < length swept.corners }
+    requires coprime { IsCoprime dir }
+    requires bounding { IsBounding (T.content table.now) (length lp.now.rows) lp.now.cols dir }
+    requires present { IsAt lp.now (T.content table.now) swept.corners present }
     requires before { IsSwept lp.now swept }
     ensures { IfOk result (IsSwept lp.now) }
 {
@@ -134,11 +140,7 @@ fn close<T: Tableau>(
         return Ok(swept);
     }
     let mut swept = swept;
-    let shape = Shape::of(lp);
-    add_side(
-        &mut swept,
-        side_at(alloc, table, shape, Dir { a: 1, b: 0 }, present)?,
-    )?;
+    add_side(&mut swept, side_at(alloc, lp, table, dir, present)?)?;
     Ok(swept)
 }
 
@@ -154,12 +156,12 @@ pub fn sweep<T: Tableau>(alloc: Global, lp: &Lp, table: &mut T) -> Result<Swept,
     let shape = Shape::of(lp);
     let mut dir = Dir { a: 1, b: 0 };
     best(lp, table, &dir)?;
-    let mut swept = begin(alloc, lp, table)?;
+    let mut swept = begin(alloc, lp, table, dir)?;
     let mut present = 0;
     loop {
         let next = next_direction(table, shape, &dir);
         if is_full_turn(&next) {
-            return Ok(close(alloc, lp, table, present, swept)?);
+            return Ok(close(alloc, lp, table, next, present, swept)?);
         }
         present = turn(alloc, lp, table, next, present, &mut swept)?;
         dir = next;

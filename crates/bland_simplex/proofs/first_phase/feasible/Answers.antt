@@ -1,5 +1,6 @@
 -- The start is a tableau of its own, and feasible.
-use Rattle.bland_simplex.proofs.Emptiness.{stuck_shows, stuck_narrow, shown_empty, ready_solution}
+use Rattle.lp_form.proofs.Certified.{shown_empty}
+use Rattle.bland_simplex.proofs.Emptiness.{stuck_shows, stuck_narrow, ready_solution}
 use Rattle.bland_simplex.proofs.Runs.{leads_on, ends_on, short_ends, error_named}
 use Rattle.bland_simplex.proofs.Beginning.{way_of_start}
 use Rattle.int_tableau.specs.declared.ends.PivotEnd.TheVariants.{NoMemory}

@@ -1,7 +1,6 @@
--- A narrow multiplier for each row passed.
-use Rattle.std.proofs.Common.{◌≡◌, length, All}
-use Rattle.corr_num.specs.Narrow.{Narrow}
+-- An entry for each row passed.
+use Rattle.polygon_sweep.specs.Swept.{AreEntries}
 use Rattle.polygon_sweep.proofs.readings.multipliers.Given as goal
 
 abbrev pub invariant-loop-col : goal.invariant-loop-col
-invariant-loop-col g l = (length l.list ≡ l.col) × All Narrow l.list
+invariant-loop-col g l = AreEntries (g.T.Tableau.content l.fn.table) l.fn.row l.fn.shape.cols l.col l.list

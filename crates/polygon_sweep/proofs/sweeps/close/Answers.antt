@@ -1,10 +1,8 @@
--- The last side stands at the present corner, in the direction of an axis.
-use Rattle.polygon_sweep.proofs.Axes.{first_axis}
+-- The last side stands at the present corner.
 use Rattle.polygon_sweep.proofs.Growing.{at_corner}
 use Rattle.polygon_sweep.proofs.sweeps.close.Goals as goal
 
-pub side_at-requires-clause-coprime : goal.side_at-requires-clause-coprime
-side_at-requires-clause-coprime g c = first_axis
-
 pub returns : goal.returns
-returns g c = c.in_ok-add_side.ensures.kept _ c.requires.before (at_corner _ _ _ _ (rw c.of-shape.ensures.rows at c.in_ok-side_at.ensures) c.requires.present)
+returns g c =
+    let side = at_corner _ _ _ _ _ c.in_ok-side_at.ensures.side c.in_ok-side_at.ensures.number c.in_ok-side_at.ensures.point c.requires.present in
+    c.in_ok-add_side.ensures.kept _ c.requires.before side

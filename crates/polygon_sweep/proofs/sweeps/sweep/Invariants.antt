@@ -1,9 +1,9 @@
 -- The tableau is ready and optimal for the direction, the present corner is one of those found, and what was found is a part of the
 -- polygon's belt. Each turn raises the direction's rank.
-use Rattle.std.proofs.Common.{◌-◌, ◌*◌, ◌^◌, ◌<◌, length}
+use Rattle.std.proofs.Common.{length}
 use Rattle.bland_simplex.specs.Improving.{IsOptimal}
 use Rattle.bland_simplex.specs.Ready.{IsReady}
-use Rattle.polygon_sweep.specs.Swept.{IsCoprime, IsSwept}
+use Rattle.polygon_sweep.specs.Swept.{IsAt, IsCoprime, IsSwept}
 use Rattle.polygon_sweep.proofs.Ranks.{rank_left}
 use Rattle.polygon_sweep.proofs.sweeps.sweep.Given as goal
 
@@ -12,7 +12,7 @@ invariant-loop-shape g l =
     IsReady l.lp (g.T.Tableau.content l.table)
     × IsOptimal (g.T.Tableau.content l.table) (length l.lp.rows) l.lp.cols l.dir
     × IsCoprime l.dir
-    × (l.present < length l.swept.corners)
+    × IsAt l.lp (g.T.Tableau.content l.table) l.swept.corners l.present
     × IsSwept l.lp l.swept
 
 abbrev pub decreases-loop-shape : goal.decreases-loop-shape
