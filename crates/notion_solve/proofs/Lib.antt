@@ -1,4 +1,5 @@
 mod Cutting
 mod Joined
 mod Marking
+mod Points
 mod Weighing

@@ -1,7 +1,7 @@
 -- The entries of a decomposition and the sides of a sweep are in the ranges of a report.
 use Rattle.std.proofs.Common.{◌≡◌, ℕ, ◌<◌, ◌≤◌, ◌∙◌, List, Option, Some, None, All, length, slice_get, get_or, ap, refl, arith}
 use Rattle.std.proofs.lemmas.Int.{ints}
-use Rattle.std.proofs.lemmas.Option.{slice_get-get_or}
+use Rattle.std.proofs.lemmas.Option.{slice_get-get_or, slice_get_within}
 use Rattle.corr_game.specs.declared.nodes.SetInfo.{SetInfo}
 use Rattle.corr_game.specs.declared.plans.Pair.{Pair}
 use Rattle.corr_game.specs.declared.sides.Side.{Side}
@@ -10,6 +10,8 @@ use Rattle.corr_game.specs.Plan.{IsPlan}
 use Rattle.sequences.specs.Number.{SeqsView}
 use Rattle.plane_hull.specs.declared.sides.SideRow.{SideRow}
 use Rattle.plan_decompose.specs.Entry.{IsEntry}
+use Rattle.lp_form.specs.Program.{LpView}
+use Rattle.polygon_sweep.specs.declared.corners.SweptCorner.{SweptCorner}
 use Rattle.polygon_sweep.specs.Swept.{IsSideAmong}
 use Rattle.report_form.specs.Ranges.{IsAction, IsPair, IsSide}
 
@@ -34,8 +36,10 @@ entry_pair g s pair rules entry = ((entry.positive, entry.narrow), plan_actions 
 pub entry_pairs : (g : GameView) (s : SeqsView) (pairs : List Pair) → IsGame g → All (IsEntry g s) pairs → All IsPair pairs
 entry_pairs g s pairs rules all k d inside = entry_pair g s _ rules (all k d inside)
 
-pub side_ranges : (rows corners : ℕ) (side : SideRow) → IsSideAmong rows corners side → IsSide corners side
-side_ranges rows corners side h = (h.0.coprime, h.1, (let above = h.0.positive in omega (arith, ints), h.0.den), h.0.first, h.0.second)
+pub side_ranges : (lp : LpView) (corners : List SweptCorner) (side : SideRow) → IsSideAmong lp corners side → IsSide (length corners) side
+side_ranges lp corners side h =
+    let is = h.certified in
+    (is.coprime, slice_get_within corners side.corner h.corner h.at, (let above = is.certified.positive in omega (arith, ints), is.den), is.first, is.second)
 
-pub all_side_ranges : (rows corners : ℕ) (sides : List SideRow) → All (IsSideAmong rows corners) sides → All (IsSide corners) sides
-all_side_ranges rows corners sides all k d inside = side_ranges rows corners _ (all k d inside)
+pub all_side_ranges : (lp : LpView) (corners : List SweptCorner) (sides : List SideRow) → All (IsSideAmong lp corners) sides → All (IsSide (length corners)) sides
+all_side_ranges lp corners sides all k d inside = side_ranges lp corners _ (all k d inside)

@@ -11,6 +11,7 @@ ghost use Rattle.triangle_test.specs.Triangle.{IsTriangle};
 ghost use Rattle.triangle_test.specs.declared.triangles.Quad.{Quad};
 ghost use Rattle.notion_solve.specs.Outcome.{IsOutcome};
 ghost use Rattle.notion_solve.specs.Programs.{IsOverRows};
+ghost use Rattle.notion_solve.specs.Shown.{IsShown, IsShownFor};
 ghost use Rattle.notion_solve.specs.Spread.{AreSpread};
 ghost use Rattle.report_form.specs.Ranges.{IsBlock};
 
@@ -55,6 +56,7 @@ pub fn solve(alloc: Global, game: &Game, pairs: &Pairs, notion: Notion) -> Resul
     requires size { (rows columns : ℕ) × HasSize game.now pairs.now notion rows columns × (rows ≤ 2048) × (columns ≤ 8192) }
     ensures ranges { IfOk result IsBlock }
     ensures spread { IfOk result (AreSpread pairs.now) }
+    ensures shown { IfOk result (IsShownFor game.now pairs.now notion) }
 {
     let lp = program(alloc, game, pairs, notion)?;
     let mut table = Dense::start(alloc, &lp)?;
@@ -74,6 +76,7 @@ fn found(alloc: Global, game: &Game, pairs: &Pairs, swept: Swept) -> Result<Bloc
     requires swept { (lp : LpView) × IsSwept lp swept × IsOverRows pairs.now lp }
     ensures ranges { IfOk result IsBlock }
     ensures spread { IfOk result (AreSpread pairs.now) }
+    ensures shown { IfOk result (λ block. (lp : LpView) → IsProgram lp → IsSwept lp swept → IsShown game.now pairs.now lp block) }
 {
     let Swept { corners, sides } = swept;
     Ok(Block::Found {

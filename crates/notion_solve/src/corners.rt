@@ -1,7 +1,7 @@
 // Corners with the pairs of plans that reach them.
-ghost use Rattle.std.specs.Prelude.{◌≡◌, ℕ, ◌^◌, ◌<◌, ◌≤◌, pos, ◌<ℤ◌, unsigned_abs, length, take, All, IfOk};
+ghost use Rattle.std.specs.Prelude.{◌≡◌, ℕ, ◌^◌, ◌<◌, ◌≤◌, pos, ◌*ℤ◌, ◌<ℤ◌, unsigned_abs, length, take, All, IfOk};
 ghost use Rattle.connected_pairs.specs.Connected.{IsPairsOf};
-ghost use Rattle.corr_game.specs.Game.{IsGame};
+ghost use Rattle.corr_game.specs.Game.{IsGame, scale_of};
 ghost use Rattle.corr_num.specs.Narrow.{Narrow};
 ghost use Rattle.polygon_sweep.specs.Swept.{IsCornerOf};
 ghost use Rattle.report_form.specs.Ranges.{IsCorner, IsScale};
@@ -9,6 +9,7 @@ ghost use Rattle.lp_form.specs.Program.{LpView};
 ghost use Rattle.triangle_test.specs.Triangle.{IsTriangle};
 ghost use Rattle.triangle_test.specs.declared.triangles.Quad.{Quad};
 ghost use Rattle.notion_solve.specs.Programs.{IsOverRows};
+ghost use Rattle.notion_solve.specs.Shown.{ArePointsOf, IsPointIn, IsReached};
 ghost use Rattle.notion_solve.specs.Spread.{IsSpread};
 
 use connected_pairs::Pairs;
@@ -40,6 +41,7 @@ fn scaled(den: i128, scale: i64) -> i128
     requires positive { pos 0 <ℤ den }
     requires narrow { Narrow den }
     requires scale { IsScale scale }
+    ensures product { result ≡ den *ℤ scale }
     ensures positive { pos 0 <ℤ result }
     ensures bound { unsigned_abs result < 2 ^ 126 }
 {
@@ -49,6 +51,7 @@ fn scaled(den: i128, scale: i64) -> i128
 /// A player's scale, which is in its range by the rules of a game.
 fn scale_of(game: &Game, side: Side) -> i64
     ensures scale { IsScale result }
+    ensures value { result ≡ scale_of side game.now }
     ensures rules { IsGame game.now }
 {
     game.scale(side)
@@ -57,6 +60,7 @@ fn scale_of(game: &Game, side: Side) -> i64
 /// The file's payoffs at a corner.
 fn point_of(game: &Game, corner: &SweptCorner) -> Point
     requires { (lp : LpView) × IsCornerOf lp corner.now }
+    ensures point { IsPointIn game.now result corner.now.one corner.now.two corner.now.den }
     ensures rules { IsGame game.now }
 {
     Point {
@@ -77,6 +81,8 @@ fn corner_of(
     requires corner { (lp : LpView) × IsCornerOf lp corner.now × IsOverRows pairs.now lp }
     ensures ranges { IfOk result IsCorner }
     ensures spread { IfOk result (IsSpread pairs.now) }
+    ensures point { IfOk result (λ made. IsPointIn game.now made.point corner.now.one corner.now.two corner.now.den) }
+    ensures reached { IfOk result (λ made. (lp : LpView) → IsCornerOf lp corner.now → IsReached game.now pairs.now lp made) }
 {
     let point = point_of(game, corner);
     let values = front(alloc, &corner.values, pairs.len())?;
@@ -102,6 +108,8 @@ pub fn corners_of(
     ensures count { IfOk result (λ corners. length corners ≡ length swept.now) }
     ensures ranges { IfOk result (λ corners. All IsCorner corners) }
     ensures spread { IfOk result (λ corners. All (IsSpread pairs.now) corners) }
+    ensures points { IfOk result (ArePointsOf game.now swept.now) }
+    ensures reached { IfOk result (λ corners. (lp : LpView) → All (IsCornerOf lp) swept.now → All (IsReached game.now pairs.now lp) corners) }
 {
     let mut corners = Corners::new(alloc);
     for k in 0..swept.len() {

@@ -4,7 +4,7 @@ ghost use Rattle.connected_pairs.specs.Connected.{IsPairsOf};
 ghost use Rattle.incentive_rows.specs.Size.{HasSize};
 ghost use Rattle.lp_form.specs.Program.{IsProgram};
 ghost use Rattle.int_tableau.specs.Start.{StartsNarrow};
-ghost use Rattle.notion_solve.specs.Programs.{IsOverRows};
+ghost use Rattle.notion_solve.specs.Programs.{IsOverRows, IsProgramOf};
 
 use connected_pairs::Pairs;
 use corr_game::{Game, Notion};
@@ -22,6 +22,7 @@ pub fn program(alloc: Global, game: &Game, pairs: &Pairs, notion: Notion) -> Res
     ensures few_rows { IfOk result (λ lp. length lp.rows ≤ 2048) }
     ensures few_columns { IfOk result (λ lp. lp.cols ≤ 8192) }
     ensures bounded { IfOk result (λ lp. HasBoundedPayoffs lp) }
+    ensures whose { IfOk result (IsProgramOf game.now pairs.now notion) }
     ensures over_rows { IfOk result (λ lp. IsOverRows pairs.now lp) }
 {
     let base = polytope(alloc, game, pairs)?;

@@ -1,5 +1,6 @@
 -- Corners and sides of a sweep are in the ranges of a report.
 use Rattle.std.proofs.Common.{◌≤◌, length, arith}
+use Rattle.notion_solve.proofs.Points.{certified_sides}
 use Rattle.notion_solve.proofs.Weighing.{all_side_ranges}
 use Rattle.notion_solve.proofs.blocks.found.Goals as goal
 
@@ -8,3 +9,9 @@ returns-clause-ranges c =
     let swept = c.requires.swept.1 in
     let some : 1 ≤ length c.in_ok-corners_of.field-0 = omega (arith, c.in_ok-corners_of.ensures.count, swept.a_corner) in
     (some, swept.a_side, c.in_ok-corners_of.ensures.ranges, rw c.in_ok-corners_of.ensures.count (all_side_ranges _ _ c.args.swept.sides swept.sides))
+
+pub returns-clause-shown : goal.returns-clause-shown
+returns-clause-shown c = λ lp program swept. (
+  c.in_ok-corners_of.ensures.reached lp swept.corners,
+  certified_sides c.args.game.now lp c.args.swept.corners _ c.args.swept.sides program swept.corners c.in_ok-corners_of.ensures.points swept.sides,
+)

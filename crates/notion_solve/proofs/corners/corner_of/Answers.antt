@@ -3,6 +3,9 @@ use Rattle.std.proofs.Common.{◌≤◌, ◌≤ℤ◌, pos, length, arith}
 use Rattle.std.proofs.lemmas.Int.{ints}
 use Rattle.corr_num.proofs.PrintedTerms.{narrow_returned}
 use Rattle.notion_solve.proofs.Cutting.{cut_solution, cut_total}
+use Rattle.std.proofs.lemmas.Option.{slice_get_within}
+use Rattle.polygon_sweep.specs.Swept.{number_in}
+use Rattle.notion_solve.proofs.Points.{cut_value}
 use Rattle.notion_solve.proofs.Weighing.{entry_pairs}
 use Rattle.notion_solve.proofs.corners.corner_of.Goals as goal
 
@@ -33,4 +36,16 @@ returns-clause-spread c =
       meets = s.rows;
       total = cut_total p needs.0 c.args.corner.now values needs.2 corner cut;
       sums = c.in_ok-pairs.ensures.sums;
+    })
+
+pub returns-clause-reached : goal.returns-clause-reached
+returns-clause-reached c = λ lp at.
+    let p = c.args.pairs.now in
+    let values = c.in_ok-values.values in
+    let cut = rw c.len.ensures.count at c.in_ok-values.ensures.front in
+    rw (narrow_returned c.args.corner.now.den at.den) (record {
+      x = number_in c.args.corner.now.values;
+      solution = at.solution;
+      point = rw (← at.pays_one, ← at.pays_two) c.point_of-point.ensures.point;
+      sums = λ k pair here. rw (← cut_value c.args.corner.now.values values (length p.pairs) k cut (slice_get_within p.pairs k pair here)) (c.in_ok-pairs.ensures.sums k pair here);
     })

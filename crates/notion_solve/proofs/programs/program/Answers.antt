@@ -30,3 +30,21 @@ returns-clause-over_rows c = record {
   meets = λ values total x count same s. c.in_ok-base.ensures.meets values total count
       (solution_alike c.in_ok-base.base total x _ (λ k low. same k (omega (arith, low, c.in_ok-base.ensures.columns))) (c.in_ok-lp.ensures.solutions total x s));
 }
+
+pub returns-clause-whose : goal.returns-clause-whose
+returns-clause-whose c =
+    let size = c.requires.size.2 in
+    record {
+      base = c.in_ok-base.base;
+      more = c.in_ok-more.more;
+      parts = c.in_ok-lp.ensures.both;
+      right_sides = returns-clause-program c;
+      columns = c.in_ok-base.ensures.columns;
+      correlation = c.in_ok-base.ensures.correlation;
+      incentives = size.incentives;
+      values = size.values;
+      size = size.behind;
+      count = c.in_ok-more.ensures.rows size.incentives size.values size.behind;
+      of_one = c.in_ok-more.ensures.rows_of_one size.incentives size.values size.behind;
+      of_two = c.in_ok-more.ensures.rows_of_two size.incentives size.values size.behind;
+    }
