@@ -7,6 +7,7 @@ use Rattle.connected_pairs.specs.Connected.{PairsView}
 use Rattle.connected_pairs.specs.CorrelationRows.{MeetsRows, value_of}
 use Rattle.incentive_rows.specs.Size.{HasIncentives}
 use Rattle.incentive_rows.specs.Standing.{HasRowsFor}
+use Rattle.plan_polytope.specs.Payoffs.{ArePayoffs}
 use Rattle.plan_polytope.specs.Rows.{AreCorrelationRows}
 use Rattle.lp_form.specs.Program.{IsProgram, LpView, joined}
 use Rattle.lp_form.specs.Solutions.{IsSolution}
@@ -18,8 +19,8 @@ pub record IsOverRows (p : PairsView) (lp : LpView) : Type 0 where
   pub meets : (values : List ℤ) (total : ℤ) (x : ℕ → ℤ) → length values ≡ length p.pairs → ((k : ℕ) → k < length p.pairs → slice_index_or values k (pos 0) ≡ x k)
       → IsSolution lp total x → MeetsRows p values × (value_of p values One 0 0 ≡ total)
 
--- the program of a notion: over the payoff rows of the first part, the correlation rows over the relevant pairs, and behind them the
--- incentive rows of both players' triggers
+-- the program of a notion: the correlation rows and what the leaves pay, over the relevant pairs, and behind them the incentive rows of
+-- both players' triggers
 pub record IsProgramOf (g : GameView) (p : PairsView) (notion : Notion) (lp : LpView) : Type 0 where
   pub base : LpView
   pub more : LpView
@@ -27,6 +28,7 @@ pub record IsProgramOf (g : GameView) (p : PairsView) (notion : Notion) (lp : Lp
   pub right_sides : IsProgram lp
   pub columns : base.cols ≡ length p.pairs
   pub correlation : AreCorrelationRows g p base
+  pub payoffs : ArePayoffs g p base
   pub incentives : ℕ
   pub values : ℕ
   pub size : HasIncentives g p notion incentives values

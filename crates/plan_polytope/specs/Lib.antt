@@ -1,5 +1,6 @@
 pub mod Bounds
 pub mod CorrelationRow
+pub mod Payoffs
 pub mod Placing
 pub mod RowCount
 pub mod RowOrder

@@ -7,6 +7,7 @@ ghost use Rattle.lp_form.specs.Solutions.{HasBoundedPayoffs};
 ghost use Rattle.connected_pairs.specs.Connected.{IsPairs, IsPairsOf, other};
 ghost use Rattle.plan_polytope.specs.Bounds.{AreUnits, IsWithin};
 ghost use Rattle.plan_polytope.specs.CorrelationRow.{AreFilled, IsCorrelationRow, IsRowOf, IsTotalRow, column_of};
+ghost use Rattle.plan_polytope.specs.Payoffs.{ArePayoffs};
 ghost use Rattle.plan_polytope.specs.Placing.{Puts};
 ghost use Rattle.plan_polytope.specs.RowCount.{HasBothCounts};
 ghost use Rattle.plan_polytope.specs.Rows.{AreCorrelationRows};
@@ -30,6 +31,7 @@ pub fn polytope(alloc: Global, game: &Game, pairs: &Pairs) -> Result<Lp, NoMemor
     ensures correlation { IfOk result (λ lp. AreCorrelationRows game.now pairs.now lp) }
     ensures total { IfOk result (λ lp. right_of lp 0 ≡ pos 1) }
     ensures other_rights { IfOk result (λ lp. (r : ℕ) → right_of lp (r + 1) ≡ pos 0) }
+    ensures payoffs { IfOk result (ArePayoffs game.now pairs.now) }
     ensures amounts { IfOk result (λ lp. IsWithin (2 ^ 40) lp) }
     ensures units { IfOk result (λ lp. AreUnits lp) }
     ensures small { IfOk result (λ lp. IsSmall lp) }

@@ -41,6 +41,7 @@ returns-clause-whose c =
       right_sides = returns-clause-program c;
       columns = c.in_ok-base.ensures.columns;
       correlation = c.in_ok-base.ensures.correlation;
+      payoffs = c.in_ok-base.ensures.payoffs;
       incentives = size.incentives;
       values = size.values;
       size = size.behind;
