@@ -1,5 +1,6 @@
 pub mod Bounding
 pub mod Certified
+pub mod JoinedRights
 pub mod Joining
 pub mod Placing
 pub mod Solving

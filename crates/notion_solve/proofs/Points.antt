@@ -14,7 +14,8 @@ use Rattle.plane_hull.specs.declared.sides.SideRow.{SideRow}
 use Rattle.polygon_sweep.specs.declared.corners.SweptCorner.{SweptCorner}
 use Rattle.polygon_sweep.specs.Swept.{IsCornerOf, IsPointOf, IsSideAmong, number_in}
 use Rattle.report_form.specs.declared.reports.Corner.{Corner}
-use Rattle.notion_solve.specs.Shown.{ArePointsOf, IsCertified, IsPointIn}
+use Rattle.report_form.specs.Certified.{IsCertified, IsPointIn}
+use Rattle.notion_solve.specs.Shown.{ArePointsOf}
 
 -- p over q is one over den times the scale, and first over made is one over den: so p over q is first over made times the scale
 same_point : (p q one den scale first made : ℤ) → pos 0 <ℤ den → p *ℤ (den *ℤ scale) ≡ one *ℤ q → first *ℤ den ≡ one *ℤ made → p *ℤ (made *ℤ scale) ≡ first *ℤ q

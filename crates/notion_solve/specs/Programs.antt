@@ -1,15 +1,9 @@
 -- The program of a notion, over the correlation rows (von Stengel and Forges 2008).
-use Rattle.std.specs.Prelude.{◌≡◌, ℕ, ◌+◌, ◌<◌, ◌≤◌, List, length, ℤ, pos, slice_index_or}
-use Rattle.corr_game.specs.declared.notions.Notion.{Notion}
-use Rattle.corr_game.specs.declared.sides.Side.TheVariants.{One, Two}
-use Rattle.corr_game.specs.Game.{GameView}
+use Rattle.std.specs.Prelude.{◌≡◌, ℕ, ◌<◌, ◌≤◌, List, length, ℤ, pos, slice_index_or}
+use Rattle.corr_game.specs.declared.sides.Side.TheVariants.{One}
 use Rattle.connected_pairs.specs.Connected.{PairsView}
 use Rattle.connected_pairs.specs.CorrelationRows.{MeetsRows, value_of}
-use Rattle.incentive_rows.specs.Size.{HasIncentives}
-use Rattle.incentive_rows.specs.Standing.{HasRowsFor}
-use Rattle.plan_polytope.specs.Payoffs.{ArePayoffs}
-use Rattle.plan_polytope.specs.Rows.{AreCorrelationRows}
-use Rattle.lp_form.specs.Program.{IsProgram, LpView, joined}
+use Rattle.lp_form.specs.Program.{LpView}
 use Rattle.lp_form.specs.Solutions.{IsSolution}
 
 -- the relevant pairs are the program's first columns; the numbers that a solution has there meet the correlation rows, and its
@@ -18,20 +12,3 @@ pub record IsOverRows (p : PairsView) (lp : LpView) : Type 0 where
   pub columns : length p.pairs ≤ lp.cols
   pub meets : (values : List ℤ) (total : ℤ) (x : ℕ → ℤ) → length values ≡ length p.pairs → ((k : ℕ) → k < length p.pairs → slice_index_or values k (pos 0) ≡ x k)
       → IsSolution lp total x → MeetsRows p values × (value_of p values One 0 0 ≡ total)
-
--- the program of a notion: the correlation rows and what the leaves pay, over the relevant pairs, and behind them the incentive rows of
--- both players' triggers
-pub record IsProgramOf (g : GameView) (p : PairsView) (notion : Notion) (lp : LpView) : Type 0 where
-  pub base : LpView
-  pub more : LpView
-  pub parts : lp ≡ joined base more
-  pub right_sides : IsProgram lp
-  pub columns : base.cols ≡ length p.pairs
-  pub correlation : AreCorrelationRows g p base
-  pub payoffs : ArePayoffs g p base
-  pub incentives : ℕ
-  pub values : ℕ
-  pub size : HasIncentives g p notion incentives values
-  pub count : length more.rows ≡ incentives
-  pub of_one : HasRowsFor notion g p One 0 0 (length p.pairs + values) more.cols more
-  pub of_two : HasRowsFor notion g p Two size.rows_one size.values_one (length p.pairs + values) more.cols more

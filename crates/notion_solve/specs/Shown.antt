@@ -1,27 +1,20 @@
 -- What a block shows of a program (von Stengel and Forges 2008; the duality of linear programs, Dantzig 1963): corners that solutions
 -- reach, sides that none passes, or that there is no solution.
-use Rattle.std.specs.Prelude.{◌≡◌, ℕ, ℤ, pos, ◌*ℤ◌, List, Some, slice_get, slice_index_or, All}
+use Rattle.std.specs.Prelude.{◌≡◌, ℕ, ℤ, List, Some, slice_get, All}
 use Rattle.corr_game.specs.declared.notions.Notion.{Notion}
 use Rattle.corr_game.specs.declared.sides.Side.TheVariants.{One, Two}
-use Rattle.corr_game.specs.Game.{GameView, scale_of}
-use Rattle.corr_num.specs.Fraction.{IsSameNumber}
+use Rattle.corr_game.specs.Game.{GameView}
 use Rattle.connected_pairs.specs.Connected.{PairsView}
 use Rattle.plan_decompose.specs.Entry.{SumsTo}
-use Rattle.lp_form.specs.Certificates.{Certify, ShowEmpty}
+use Rattle.lp_form.specs.Certificates.{ShowEmpty}
 use Rattle.lp_form.specs.Program.{LpView}
 use Rattle.lp_form.specs.Solutions.{IsSolution, paid}
-use Rattle.plane_hull.specs.declared.sides.Point.{Point}
-use Rattle.plane_hull.specs.declared.sides.SideRow.{SideRow}
 use Rattle.polygon_sweep.specs.declared.corners.SweptCorner.{SweptCorner}
+use Rattle.report_form.specs.Certified.{IsCertified, IsPointIn}
 use Rattle.report_form.specs.declared.reports.Block.{Block}
 use Rattle.report_form.specs.declared.reports.Block.TheVariants.{Found, Empty, TooWide}
 use Rattle.report_form.specs.declared.reports.Corner.{Corner}
-use Rattle.notion_solve.specs.Programs.{IsProgramOf}
-
--- scaled payoffs over a denominator are this point in the file's units
-pub record IsPointIn (g : GameView) (point : Point) (one two den : ℤ) : Type 0 where
-  pub first : IsSameNumber point.one (record { num = one; den = den *ℤ scale_of One g })
-  pub second : IsSameNumber point.two (record { num = two; den = den *ℤ scale_of Two g })
+use Rattle.plan_polytope.specs.NotionProgram.{IsProgramOf}
 
 -- each corner has the point of the swept corner with its number
 abbrev pub ArePointsOf : GameView → List SweptCorner → List Corner → Type 0
@@ -35,13 +28,6 @@ pub record IsReached (g : GameView) (p : PairsView) (lp : LpView) (corner : Corn
   pub solution : IsSolution lp corner.total x
   pub point : IsPointIn g corner.point (paid lp One x) (paid lp Two x) corner.total
   pub sums : (k : ℕ) (pair : ℕ × ℕ) → slice_get p.pairs k ≡ Some pair → SumsTo p.seqs pair corner.pairs (x k)
-
--- a side's multipliers certify its direction, and their point is its corner's
-pub record IsCertified (g : GameView) (lp : LpView) (corners : List Corner) (side : SideRow) : Type 0 where
-  pub multipliers : Certify lp side.dir.a side.dir.b side.den side.first side.second
-  pub corner : Corner
-  pub at : slice_get corners side.corner ≡ Some corner
-  pub point : IsPointIn g corner.point (slice_index_or side.first 0 (pos 0)) (slice_index_or side.second 0 (pos 0)) side.den
 
 -- what a block says of a program
 abbrev pub IsShown : GameView → PairsView → LpView → Block → Type 0

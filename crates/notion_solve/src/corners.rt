@@ -9,7 +9,8 @@ ghost use Rattle.lp_form.specs.Program.{LpView};
 ghost use Rattle.triangle_test.specs.Triangle.{IsTriangle};
 ghost use Rattle.triangle_test.specs.declared.triangles.Quad.{Quad};
 ghost use Rattle.notion_solve.specs.Programs.{IsOverRows};
-ghost use Rattle.notion_solve.specs.Shown.{ArePointsOf, IsPointIn, IsReached};
+ghost use Rattle.notion_solve.specs.Shown.{ArePointsOf, IsReached};
+ghost use Rattle.report_form.specs.Certified.{IsPointIn};
 ghost use Rattle.notion_solve.specs.Spread.{IsSpread};
 
 use connected_pairs::Pairs;

@@ -4,7 +4,8 @@ ghost use Rattle.connected_pairs.specs.Connected.{IsPairsOf};
 ghost use Rattle.incentive_rows.specs.Size.{HasSize};
 ghost use Rattle.lp_form.specs.Program.{IsProgram};
 ghost use Rattle.int_tableau.specs.Start.{StartsNarrow};
-ghost use Rattle.notion_solve.specs.Programs.{IsOverRows, IsProgramOf};
+ghost use Rattle.notion_solve.specs.Programs.{IsOverRows};
+ghost use Rattle.plan_polytope.specs.NotionProgram.{IsProgramOf};
 
 use connected_pairs::Pairs;
 use corr_game::{Game, Notion};

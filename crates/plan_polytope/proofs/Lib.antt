@@ -6,6 +6,7 @@ pub mod Filling
 pub mod Growing
 pub mod Meeting
 pub mod NoneAbove
+pub mod NotionProgram
 pub mod Ordering
 pub mod Smallness
 pub mod Units

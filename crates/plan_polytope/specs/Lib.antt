@@ -1,5 +1,6 @@
 pub mod Bounds
 pub mod CorrelationRow
+pub mod NotionProgram
 pub mod Payoffs
 pub mod Placing
 pub mod RowCount

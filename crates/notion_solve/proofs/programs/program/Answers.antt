@@ -2,7 +2,9 @@
 use Rattle.std.proofs.Common.{arith, rules}
 use Rattle.lp_form.proofs.Solving.{solution_alike}
 use Rattle.int_tableau.proofs.Narrowness.{small_starts_narrow}
-use Rattle.notion_solve.proofs.Joined.{as_many_rows, is_program}
+use Rattle.lp_form.proofs.JoinedRights.{is_program}
+use Rattle.plan_polytope.proofs.NotionProgram.{program_of_parts}
+use Rattle.notion_solve.proofs.Joined.{as_many_rows}
 use Rattle.notion_solve.proofs.programs.program.Goals as goal
 
 pub returns-clause-program : goal.returns-clause-program
@@ -33,19 +35,9 @@ returns-clause-over_rows c = record {
 
 pub returns-clause-whose : goal.returns-clause-whose
 returns-clause-whose c =
-    let size = c.requires.size.2 in
-    record {
-      base = c.in_ok-base.base;
-      more = c.in_ok-more.more;
-      parts = c.in_ok-lp.ensures.both;
-      right_sides = returns-clause-program c;
-      columns = c.in_ok-base.ensures.columns;
-      correlation = c.in_ok-base.ensures.correlation;
-      payoffs = c.in_ok-base.ensures.payoffs;
-      incentives = size.incentives;
-      values = size.values;
-      size = size.behind;
-      count = c.in_ok-more.ensures.rows size.incentives size.values size.behind;
-      of_one = c.in_ok-more.ensures.rows_of_one size.incentives size.values size.behind;
-      of_two = c.in_ok-more.ensures.rows_of_two size.incentives size.values size.behind;
-    }
+    let base = c.in_ok-base.ensures in
+    let more = c.in_ok-more.ensures in
+    rw c.in_ok-lp.ensures.both
+    (program_of_parts c.args.game.now c.args.pairs.now c.args.notion c.in_ok-base.base c.in_ok-more.more _ _ c.requires.size.2
+    (record { columns = base.columns; a_row = base.a_row; correlation = base.correlation; payoffs = base.payoffs; total = base.total; others = base.other_rights })
+    (record { rows = more.rows; of_one = more.rows_of_one; of_two = more.rows_of_two; rights = more.rights }))
