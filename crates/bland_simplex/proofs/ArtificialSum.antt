@@ -1,7 +1,6 @@
 -- Phase's right side: each row with a basic artificial column weighs 1 there, and the others weigh 0.
-use Rattle.std.proofs.Common.{◌≡◌, ⊎_elim, ℕ, ◌+◌, ◌-◌, ◌<◌, ◌≤◌, ℤ, pos, ◌+ℤ◌, ◌*ℤ◌, neg_ℤ, true, false, nat_lt, cond, length, refl, sym, ap, ◌∙◌, arith, lt-ltb, le-ltb}
+use Rattle.std.proofs.Common.{◌≡◌, ⊎_elim, ℕ, ◌+◌, ◌-◌, ◌<◌, ◌≤◌, ℤ, pos, ◌*ℤ◌, neg_ℤ, true, false, nat_lt, cond, length, refl, sym, ap, ◌∙◌, arith, lt-ltb, le-ltb}
 use Rattle.std.proofs.lemmas.Bool.{cases_lt}
-use Rattle.std.proofs.lemmas.Int.{ints}
 use Rattle.exact_algebra.proofs.RingLaws.{zero-*ℤ, one-*ℤ}
 use Rattle.exact_algebra.proofs.Sums.{sum_to-same}
 use Rattle.exact_algebra.specs.Sums.{sum_to}
@@ -11,7 +10,7 @@ use Rattle.int_tableau.specs.Content.{Content, right_side}
 use Rattle.int_tableau.specs.Start.{start_entry}
 use Rattle.bland_simplex.proofs.Emptiness.{opposite_of}
 use Rattle.bland_simplex.proofs.StartEntries.{phase_weight, weight_program, weight_right, weight_artificial}
-use Rattle.bland_simplex.proofs.Wholes.{width, side, whole_of}
+use Rattle.bland_simplex.proofs.Wholes.{side, whole_of}
 use Rattle.bland_simplex.specs.Ready.{IsUnderWay, artificial_sum}
 
 weighed : (lp : LpView) (col : ℕ) (value : ℤ) → col < side lp → phase_weight lp col *ℤ value ≡ cond (nat_lt col lp.cols) (pos 0) value

@@ -3,11 +3,10 @@
 use Rattle.std.proofs.Common.{◌≡◌, ◌≢◌, ◌⊎◌, ⊎_elim, inl, inr, ℕ, ◌+◌, ◌<◌, ◌≤◌, List, ℤ, pos, ◌+ℤ◌, ◌-ℤ◌, ◌*ℤ◌, ◌≤ℤ◌, ◌<ℤ◌, neg_ℤ, slice_index_or, length, refl, sym, ap, ◌∙◌, arith}
 use Rattle.std.proofs.lemmas.Bool.{cases_eq, cases_lt}
 use Rattle.std.proofs.lemmas.Int.{ints}
-use Rattle.exact_algebra.proofs.Matrices.{row_matrix_column}
-use Rattle.exact_algebra.proofs.Order.{product_not_negative, product_not_positive, product_positive}
-use Rattle.exact_algebra.proofs.RingLaws.{*ℤ_comm, *ℤ-zero, *ℤ-one}
-use Rattle.exact_algebra.proofs.SumOrder.{sum_to_at_most, sum_to_not_negative}
-use Rattle.exact_algebra.proofs.Sums.{sum_to-same, sum_to-one, sum_to-nothing}
+use Rattle.exact_algebra.proofs.Order.{product_not_negative}
+use Rattle.exact_algebra.proofs.RingLaws.{*ℤ-zero, *ℤ-one}
+use Rattle.exact_algebra.proofs.SumOrder.{sum_to_not_negative}
+use Rattle.exact_algebra.proofs.Sums.{sum_to-same, sum_to-one}
 use Rattle.exact_algebra.specs.Sums.{sum_to}
 use Rattle.corr_num.specs.Narrow.{Narrow}
 use Rattle.exact_linear.proofs.Determinant.{unit, unit-same, unit-other}

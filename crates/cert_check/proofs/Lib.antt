@@ -1,4 +1,6 @@
+mod CertifiedSides
 mod ColumnSums
 mod RestOfRow
 mod Sizes
+mod Whole
 pub mod Elements

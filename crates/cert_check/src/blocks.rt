@@ -1,6 +1,11 @@
 ghost use Rattle.std.specs.Prelude.{◌≡◌, ◌↔◌, IsTrue, ◌<◌, ◌≤◌, All, IfOk, Ok, length};
 ghost use Rattle.cert_check.specs.declared.verdicts.Verdict.TheVariants.{NoScale};
+ghost use Rattle.cert_check.specs.Certified.{AreCertifiedBlocks, AreCornersPoints, IsAccepted, IsCertifiedBlock};
 ghost use Rattle.cert_check.specs.Scales.{HasScales};
+ghost use Rattle.lp_form.specs.Certificates.{ShowEmpty};
+ghost use Rattle.lp_form.specs.Program.{LpView};
+ghost use Rattle.plan_polytope.specs.NotionProgram.{IsProgramOf};
+ghost use Rattle.report_form.specs.Certified.{IsCertified};
 ghost use Rattle.corr_game.specs.Game.{IsGame};
 ghost use Rattle.corr_num.specs.Narrow.{Narrow};
 ghost use Rattle.connected_pairs.specs.Connected.{IsPairsOf};
@@ -30,6 +35,7 @@ pub fn check(
     requires sizes { AllFit game.now pairs.now report.now.blocks }
     ensures no_scale { IfOk result (λ verdict. verdict ≡ NoScale → HasScales game.now report.now → ⊥) }
     ensures scales { IfOk result (λ verdict. (HasScales game.now report.now → ⊥) → verdict ≡ NoScale) }
+    ensures certified { IfOk result (λ verdict. IsAccepted verdict → AreCertifiedBlocks game.now pairs.now report.now.blocks) }
 {
     if !has_scales(game, report) {
         return Ok(Verdict::NoScale);
@@ -56,7 +62,8 @@ fn check_blocks(
     requires whose { IsPairsOf game.now pairs.now }
     requires ranges { InOrderFrom 0 blocks.now }
     requires sizes { AllFit game.now pairs.now blocks.now }
-    ensures { IfOk result (λ verdict. verdict ≡ NoScale → ⊥) }
+    ensures not_scales { IfOk result (λ verdict. verdict ≡ NoScale → ⊥) }
+    ensures certified { IfOk result (λ verdict. IsAccepted verdict → AreCertifiedBlocks game.now pairs.now blocks.now) }
 {
     for k in 0..blocks.len() {
         let named = blocks.at(k);
@@ -98,14 +105,17 @@ fn check_block(
     requires whose { IsPairsOf game.now pairs.now }
     requires ranges { IsBlock named.now.block }
     requires size { Fits game.now pairs.now named.now.notion }
+    ensures { IfOk result (λ _. IsCertifiedBlock game.now pairs.now named.now.notion named.now.block) }
 {
     match &named.block {
         Block::Found { corners, sides } => {
             check_corners(alloc, game, pairs, named.notion, corners)?;
-            check_sides(alloc, game, pairs, named.notion, (corners, sides))
+            check_sides(alloc, game, pairs, named.notion, corners, sides)?;
+            Ok(())
         }
         Block::Empty { multipliers } => {
-            check_empty(alloc, game, pairs, named.notion, multipliers)
+            check_empty(alloc, game, pairs, named.notion, multipliers)?;
+            Ok(())
         }
         Block::TooWide { .. } => Ok(()),
     }
@@ -136,20 +146,22 @@ fn check_sides(
     game: &Game,
     pairs: &Pairs,
     notion: Notion,
-    found: (&Corners, &SideList),
+    corners: &Corners,
+    sides: &SideList,
 ) -> Result<(), BlockEnd>
     requires whose { IsPairsOf game.now pairs.now }
     requires size { Fits game.now pairs.now notion }
-    requires a_corner { 1 ≤ length found.0.now }
-    requires ranges { All (IsSide (length found.0.now)) found.1.now }
+    requires a_corner { 1 ≤ length corners.now }
+    requires ranges { All (IsSide (length corners.now)) sides.now }
+    ensures { IfOk result (λ _. (lp : LpView) × IsProgramOf game.now pairs.now notion lp × All (IsCertified game.now lp corners.now) sides.now) }
 {
-    let (corners, sides) = found;
     let points = points_of(alloc, corners)?;
     check_belt(points.as_slice(), sides)?;
     let program = program_of(alloc, game, pairs, notion)?;
     for k in 0..sides.len() {
-        if let Err(end) = check_side(alloc, game, &program, points.as_slice(), sides.at(k)) {
-            return Err(at_item(end, Item::Side(k)));
+        match check_side(alloc, game, &program, points.as_slice(), sides.at(k)) {
+            Ok(()) => {}
+            Err(end) => return Err(at_item(end, Item::Side(k))),
         }
     }
     Ok(())
@@ -157,6 +169,7 @@ fn check_sides(
 
 fn points_of(alloc: Global, corners: &Corners) -> Result<Vec<Point>, NoMemory>
     ensures count { IfOk result (λ points. length points.items ≡ length corners.now) }
+    ensures each { IfOk result (λ points. AreCornersPoints corners.now points.items) }
 {
     let mut points = Vec::new(alloc);
     for k in 0..corners.len() {
@@ -188,6 +201,7 @@ fn check_empty(
     requires whose { IsPairsOf game.now pairs.now }
     requires size { Fits game.now pairs.now notion }
     requires narrow { All Narrow multipliers.now }
+    ensures { IfOk result (λ _. (lp : LpView) × IsProgramOf game.now pairs.now notion lp × ShowEmpty lp multipliers.now) }
 {
     let program = program_of(alloc, game, pairs, notion)?;
     match check_multipliers(alloc, &program, multipliers) {

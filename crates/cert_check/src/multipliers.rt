@@ -1,8 +1,10 @@
 // The products of multipliers with the columns of a program.
 ghost use Rattle.std.specs.Prelude.{◌≡◌, ℕ, ◌+◌, ◌*◌, ◌^◌, ◌≤◌, pos, ◌+ℤ◌, ◌*ℤ◌, All, IfOk, length, slice_index_or};
 ghost use Rattle.corr_num.specs.Narrow.{Narrow};
+ghost use Rattle.lp_form.specs.Certificates.{times_column};
 ghost use Rattle.lp_form.specs.Row.{IsRow, value_at};
 ghost use Rattle.cert_check.specs.Bounds.{AreSteps, AreWithin, IsBounded, IsStep};
+ghost use Rattle.cert_check.specs.Certified.{whole_of};
 ghost use Rattle.cert_check.specs.Products.{product_to};
 
 use crate::programs::Program;
@@ -21,6 +23,7 @@ pub fn column_products(
     requires narrow { All Narrow list.now }
     ensures count { IfOk result (λ sums. length sums.items ≡ program.now.more.cols) }
     ensures bound { IfOk result (λ sums. AreWithin (2 ^ 116) sums.items) }
+    ensures products { IfOk result (λ sums. (k : ℕ) → slice_index_or sums.items k (pos 0) ≡ times_column (whole_of program.now) list.now k) }
 {
     let mut sums: Vec<i128> = vec![in alloc; 0; program.more.cols() as usize]?;
     add_rows(&program.base, list, 0, &mut sums);

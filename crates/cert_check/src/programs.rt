@@ -1,6 +1,8 @@
 ghost use Rattle.std.specs.Prelude.{◌≡◌, ◌+◌, length, IfOk};
 ghost use Rattle.connected_pairs.specs.Connected.{IsPairsOf};
+ghost use Rattle.plan_polytope.specs.NotionProgram.{IsProgramOf};
 ghost use Rattle.cert_check.specs.Bounds.{IsBounded};
+ghost use Rattle.cert_check.specs.Certified.{whole_of};
 ghost use Rattle.cert_check.specs.Fits.{Fits};
 
 use connected_pairs::Pairs;
@@ -28,6 +30,7 @@ pub fn program_of(
     requires whose { IsPairsOf game.now pairs.now }
     requires size { Fits game.now pairs.now notion }
     ensures bounded { IfOk result IsBounded }
+    ensures whose { IfOk result (λ program. IsProgramOf game.now pairs.now notion (whole_of program)) }
 {
     let base = polytope(alloc, game, pairs)?;
     let more = incentives(alloc, game, pairs, notion)?;

@@ -1,9 +1,14 @@
 // The rules of a side and of the multipliers of an empty program.
-ghost use Rattle.std.specs.Prelude.{◌≡◌, ℕ, ◌+◌, ◌^◌, ◌<◌, ◌≤◌, pos, ◌≤ℤ◌, All, IfOk, IsTrue, length, unsigned_abs};
-ghost use Rattle.corr_game.specs.Game.{IsGame};
+ghost use Rattle.std.specs.Prelude.{◌≡◌, ℕ, ◌+◌, ◌^◌, ◌<◌, ◌≤◌, pos, neg_ℤ, ◌+ℤ◌, ◌*ℤ◌, ◌≤ℤ◌, All, IfOk, IsTrue, Some, length, slice_get, slice_index_or, unsigned_abs};
+ghost use Rattle.corr_game.specs.Game.{IsGame, scale_of};
+ghost use Rattle.corr_num.specs.Fraction.{IsSameNumber};
 ghost use Rattle.corr_num.specs.Narrow.{Narrow};
+ghost use Rattle.lp_form.specs.Certificates.{Certify, ShowEmpty, left_over};
+ghost use Rattle.plane_hull.specs.declared.sides.Point.{Point};
+ghost use Rattle.report_form.specs.Certified.{IsPointIn};
 ghost use Rattle.report_form.specs.Ranges.{IsPositive, IsScale, IsSide};
 ghost use Rattle.cert_check.specs.Bounds.{AreWithin, IsBounded};
+ghost use Rattle.cert_check.specs.Certified.{IsCertifiedAt, Passes, whole_of};
 
 use crate::faults::RuleEnd;
 use crate::multipliers::{add_row, column_products};
@@ -37,10 +42,12 @@ pub fn check_side(
 ) -> Result<(), RuleEnd>
     requires bounded { IsBounded program.now }
     requires ranges { IsSide (length points.now) side.now }
+    ensures { IfOk result (λ _. (point : Point) × (slice_get points.now side.now.corner ≡ Some point) × IsCertifiedAt game.now (whole_of program.now) point side.now) }
 {
     keep(has_lengths(program, side), Cause::Length)?;
     keep(has_point(game, side, &points[side.corner]), Cause::Point)?;
-    check_columns(alloc, program, side)
+    check_columns(alloc, program, side)?;
+    Ok(())
 }
 
 /// Whether both lists have one number per program row.
@@ -59,6 +66,7 @@ fn has_point(game: &Game, side: &SideRow, point: &Point) -> bool
     requires den { IsPositive side.now.den }
     requires first_narrow { All Narrow side.now.first }
     requires second_narrow { All Narrow side.now.second }
+    ensures { IsTrue result → IsPointIn game.now point.now (slice_index_or side.now.first 0 (pos 0)) (slice_index_or side.now.second 0 (pos 0)) side.now.den }
 {
     is_share(game, Side::One, (*side.first.at(0), side.den), &point.one)
         && is_share(game, Side::Two, (*side.second.at(0), side.den), &point.two)
@@ -68,6 +76,7 @@ fn has_point(game: &Game, side: &SideRow, point: &Point) -> bool
 pub fn is_share(game: &Game, side: Side, share: (i128, i128), payoff: &Frac) -> bool
     requires narrow { Narrow share.0 }
     requires den { IsPositive share.1 }
+    ensures { IsTrue result → IsSameNumber payoff.now (record { num = share.0; den = share.1 *ℤ scale_of side game.now }) }
 {
     Frac::of(share.0, in_file(game, side, share.1)) == *payoff
 }
@@ -75,6 +84,7 @@ pub fn is_share(game: &Game, side: Side, share: (i128, i128), payoff: &Frac) -> 
 /// A denominator of scaled payoffs as one of the file's.
 fn in_file(game: &Game, side: Side, den: i128) -> i128
     requires positive { IsPositive den }
+    ensures product { result ≡ den *ℤ scale_of side game.now }
     ensures positive { pos 1 ≤ℤ result }
     ensures bound { unsigned_abs result < 2 ^ 126 }
 {
@@ -83,6 +93,7 @@ fn in_file(game: &Game, side: Side, den: i128) -> i128
 
 fn scale_of(game: &Game, side: Side) -> i64
     ensures scale { IsScale result }
+    ensures value { result ≡ scale_of side game.now }
     ensures rules { IsGame game.now }
 {
     game.scale(side)
@@ -96,6 +107,7 @@ fn check_columns(alloc: Global, program: &Program, side: &SideRow) -> Result<(),
     requires den { IsPositive side.now.den }
     requires first_narrow { All Narrow side.now.first }
     requires second_narrow { All Narrow side.now.second }
+    ensures { IfOk result (λ _. Certify (whole_of program.now) side.now.dir.a side.now.dir.b side.now.den side.now.first side.now.second) }
 {
     let first = reduced(alloc, program, Side::One, &side.first, side.den)?;
     let second = reduced(alloc, program, Side::Two, &side.second, side.den)?;
@@ -118,6 +130,7 @@ fn reduced(
     requires narrow { All Narrow list.now }
     requires den { Narrow den }
     ensures count { IfOk result (λ sums. length sums.items ≡ program.now.more.cols) }
+    ensures left { IfOk result (λ sums. (k : ℕ) → slice_index_or sums.items k (pos 0) ≡ left_over (whole_of program.now) side den list.now k) }
 {
     let mut sums = column_products(alloc, program, list)?;
     add_row(program.base.payoffs(side), opposite(den), &mut sums);
@@ -126,6 +139,7 @@ fn reduced(
 
 fn opposite(number: i128) -> i128
     requires { Narrow number }
+    ensures value { result ≡ neg_ℤ number }
     ensures narrow { Narrow result }
 {
     -number
@@ -138,10 +152,22 @@ pub fn both_narrow(one: i128, two: i128) -> bool
     narrow(one) && narrow(two)
 }
 
-fn check_column(dir: &Dir, one: i128, two: i128) -> Result<(), RuleEnd> {
+/// What is left of a column for both players, weighed with the direction.
+fn weighed(dir: &Dir, one: i128, two: i128) -> i128
+    requires one { Narrow one }
+    requires two { Narrow two }
+    ensures value { result ≡ dir.now.a *ℤ one +ℤ dir.now.b *ℤ two }
+    ensures bound { unsigned_abs result < 2 ^ 127 }
+{
+    sum(product(dir.a, one), product(dir.b, two))
+}
+
+fn check_column(dir: &Dir, one: i128, two: i128) -> Result<(), RuleEnd>
+    ensures { IfOk result (λ _. Passes dir.now one two) }
+{
     keep(both_narrow(one, two), Cause::Width)?;
-    let weighed = sum(product(dir.a, one), product(dir.b, two));
-    keep(weighed >= 0, Cause::Sign)
+    keep(weighed(dir, one, two) >= 0, Cause::Sign)?;
+    Ok(())
 }
 
 /// The rules of multipliers that show that a program has no solution: no column's product is over 0, the total row's
@@ -149,6 +175,7 @@ fn check_column(dir: &Dir, one: i128, two: i128) -> Result<(), RuleEnd> {
 pub fn check_multipliers(alloc: Global, program: &Program, list: &NumList) -> Result<(), RuleEnd>
     requires bounded { IsBounded program.now }
     requires narrow { All Narrow list.now }
+    ensures { IfOk result (λ _. ShowEmpty (whole_of program.now) list.now) }
 {
     keep(list.len() == program.rows(), Cause::Length)?;
     let products = column_products(alloc, program, list)?;
@@ -156,5 +183,6 @@ pub fn check_multipliers(alloc: Global, program: &Program, list: &NumList) -> Re
         keep(narrow(products[col]), Cause::Width)?;
         keep(products[col] <= 0, Cause::Sign)?;
     }
-    keep(*list.at(0) > 0, Cause::Sign)
+    keep(*list.at(0) > 0, Cause::Sign)?;
+    Ok(())
 }

@@ -32,7 +32,7 @@ product_wider entries cols more x up h =
     ap (λ (n : ℕ). sum_to n f) whole ∙ sum_to-split cols (more - cols) f ∙ ap (λ (s : ℤ). sum_to cols f +ℤ s) rest ∙ +ℤ_idr (sum_to cols f)
 
 -- the rows of the first program are those in front
-row_in_front : (base more : LpView) (row : ℕ) → row < length base.rows → entries_of (joined base more) row ≡ entries_of base row
+pub row_in_front : (base more : LpView) (row : ℕ) → row < length base.rows → entries_of (joined base more) row ≡ entries_of base row
 row_in_front base more row low = get_or_append_left base.rows more.rows [] row low
 
 right_in_front : (base more : LpView) → IsLp base → (row : ℕ) → row < length base.rows → right_of (joined base more) row ≡ right_of base row

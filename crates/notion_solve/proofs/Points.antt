@@ -1,5 +1,5 @@
 -- The points of corners and sides in the file's units.
-use Rattle.std.proofs.Common.{◌≡◌, ◌⊎◌, inl, inr, ℕ, ◌+◌, ◌<◌, ◌≤◌, List, [], ◌∷◌, ◌++◌, length, All, Some, slice_get, slice_index_or, take, ℤ, pos, ◌*ℤ◌, ◌<ℤ◌, refl, sym, subst, ◌∙◌, ap, arith}
+use Rattle.std.proofs.Common.{◌≡◌, ◌⊎◌, inl, inr, ℕ, ◌+◌, ◌<◌, ◌≤◌, List, [], ◌∷◌, ◌++◌, length, All, Some, slice_get, slice_index_or, take, ℤ, pos, ◌*ℤ◌, ◌<ℤ◌, sym, subst, ◌∙◌, ap, arith}
 use Rattle.std.proofs.lemmas.Bool.{cases_lt}
 use Rattle.std.proofs.lemmas.List.{get_or-take}
 use Rattle.std.proofs.lemmas.Option.{get_or_from_slice_get, slice_get_within}
@@ -8,11 +8,10 @@ use Rattle.exact_algebra.proofs.Order.{cancel_positive}
 use Rattle.exact_algebra.proofs.RingTactic.{ring_laws, linear}
 use Rattle.corr_game.specs.declared.sides.Side.TheVariants.{One, Two}
 use Rattle.corr_game.specs.Game.{GameView, scale_of}
-use Rattle.corr_num.specs.Fraction.{Fraction, IsSameNumber}
 use Rattle.lp_form.specs.Program.{IsProgram, LpView}
 use Rattle.plane_hull.specs.declared.sides.SideRow.{SideRow}
 use Rattle.polygon_sweep.specs.declared.corners.SweptCorner.{SweptCorner}
-use Rattle.polygon_sweep.specs.Swept.{IsCornerOf, IsPointOf, IsSideAmong, number_in}
+use Rattle.polygon_sweep.specs.Swept.{IsCornerOf, IsSideAmong, number_in}
 use Rattle.report_form.specs.declared.reports.Corner.{Corner}
 use Rattle.report_form.specs.Certified.{IsCertified, IsPointIn}
 use Rattle.notion_solve.specs.Shown.{ArePointsOf}

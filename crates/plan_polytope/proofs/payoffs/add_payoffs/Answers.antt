@@ -37,6 +37,9 @@ loop-n-preserved c =
             keeps-on c.args.lp.now c.loop-n.lp w.add_leaf.new.lp before.1 w.in_ok-add_leaf.ensures.rows,
             λ side k. paid_more c.args.game.now c.args.pairs.now side k c.loop-n.n _ _ _ (before.2 side k) (w.in_ok-add_leaf.ensures.added side k) (rw w.in-Leaf.is at c.node.ensures.item),
           )
-      | in_default w ↦ rw w.lp-is (λ side k. omega (arith, before.0 side k), before.1,
-          λ side k. paid_less c.args.game.now c.args.pairs.now side k c.loop-n.n _ (before.2 side k) (none_paid c.args.pairs.now side k c.loop-n.n (slice_get c.args.game.now.nodes c.loop-n.n) c.node.result.now c.node.ensures.item w.in_default.not-Leaf))
+      | in_default w ↦ rw w.lp-is (
+        λ side k. omega (arith, before.0 side k),
+        before.1,
+        λ side k. paid_less c.args.game.now c.args.pairs.now side k c.loop-n.n _ (before.2 side k) (none_paid c.args.pairs.now side k c.loop-n.n (slice_get c.args.game.now.nodes c.loop-n.n) c.node.result.now c.node.ensures.item w.in_default.not-Leaf),
+      )
     ]

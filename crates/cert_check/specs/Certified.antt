@@ -1,0 +1,54 @@
+-- What an accepted report shows, block by block: sides that multipliers certify, and programs without a solution (the duality of linear
+-- programs, Dantzig 1963).
+use Rattle.std.specs.Prelude.{◌≡◌, ◌⊎◌, ℕ, ℤ, pos, ◌+ℤ◌, ◌*ℤ◌, ◌≤ℤ◌, List, Some, slice_get, slice_index_or, All}
+use Rattle.corr_game.specs.declared.notions.Notion.{Notion}
+use Rattle.corr_game.specs.Game.{GameView}
+use Rattle.corr_num.specs.Narrow.{Narrow}
+use Rattle.connected_pairs.specs.Connected.{PairsView}
+use Rattle.lp_form.specs.Certificates.{Certify, ShowEmpty}
+use Rattle.lp_form.specs.Program.{LpView, joined}
+use Rattle.plan_polytope.specs.NotionProgram.{IsProgramOf}
+use Rattle.plane_hull.specs.declared.directions.Dir.{Dir}
+use Rattle.plane_hull.specs.declared.sides.Point.{Point}
+use Rattle.plane_hull.specs.declared.sides.SideRow.{SideRow}
+use Rattle.report_form.specs.Certified.{IsCertified, IsPointIn}
+use Rattle.report_form.specs.declared.reports.Block.{Block}
+use Rattle.report_form.specs.declared.reports.Block.TheVariants.{Found, Empty, TooWide}
+use Rattle.report_form.specs.declared.reports.Corner.{Corner}
+use Rattle.report_form.specs.declared.reports.NamedBlock.{NamedBlock}
+use Rattle.cert_check.specs.declared.programs.Program.{Program}
+use Rattle.cert_check.specs.declared.verdicts.Verdict.{Verdict}
+use Rattle.cert_check.specs.declared.verdicts.Verdict.TheVariants.{Yes, Partial}
+
+-- both parts as one program
+abbrev pub whole_of : Program → LpView
+whole_of program = joined program.base program.more
+
+-- what is left of a column for both players is narrow, and 0 or more along the direction
+pub record Passes (dir : Dir) (one two : ℤ) : Type 0 where
+  pub first : Narrow one
+  pub second : Narrow two
+  pub over : pos 0 ≤ℤ (dir.a *ℤ one +ℤ dir.b *ℤ two)
+
+-- a side's multipliers certify its direction, and this is their point
+pub record IsCertifiedAt (g : GameView) (lp : LpView) (point : Point) (side : SideRow) : Type 0 where
+  pub multipliers : Certify lp side.dir.a side.dir.b side.den side.first side.second
+  pub point_is : IsPointIn g point (slice_index_or side.first 0 (pos 0)) (slice_index_or side.second 0 (pos 0)) side.den
+
+-- the points are those of the corners
+abbrev pub AreCornersPoints : List Corner → List Point → Type 0
+AreCornersPoints corners points = (k : ℕ) (corner : Corner) → slice_get corners k ≡ Some corner → slice_get points k ≡ Some corner.point
+
+-- what is certified of the notion's program: a polygon's sides, or that there is no solution
+abbrev pub IsCertifiedBlock : GameView → PairsView → Notion → Block → Type 0
+IsCertifiedBlock g p notion (Found corners sides) = (lp : LpView) × IsProgramOf g p notion lp × All (IsCertified g lp corners) sides
+IsCertifiedBlock g p notion (Empty multipliers) = (lp : LpView) × IsProgramOf g p notion lp × ShowEmpty lp multipliers
+IsCertifiedBlock g p notion (TooWide basis place) = Unit {0}
+
+-- the same of each block
+abbrev pub AreCertifiedBlocks : GameView → PairsView → List NamedBlock → Type 0
+AreCertifiedBlocks g p blocks = (k : ℕ) (named : NamedBlock) → slice_get blocks k ≡ Some named → IsCertifiedBlock g p named.notion named.block
+
+-- no rule was found broken
+abbrev pub IsAccepted : Verdict → Type 0
+IsAccepted verdict = (verdict ≡ Yes) ⊎ (verdict ≡ Partial)
