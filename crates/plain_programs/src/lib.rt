@@ -1,0 +1,11 @@
+//! Slow and plain programs whose contracts are definitions: what a reader believes, computed by going over everything.
+//!
+//! It stands on the crates that hold the definitions. No layer of the program stands on it: tests call it, to hold the
+//! program's answers against a definition, or to meet what a call asks for by a test.
+//!
+//! - `is_solution`: whether numbers solve a linear program
+#![tactic(auto)]
+
+mod solutions;
+
+pub use solutions::is_solution;
