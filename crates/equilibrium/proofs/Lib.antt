@@ -1,0 +1,6 @@
+pub mod Choosing
+pub mod Coming
+pub mod Descents
+pub mod Nesting
+pub mod Splitting
+pub mod Together

@@ -1,0 +1,49 @@
+// Laws of equilibrium, as functions that do nothing.
+ghost use Rattle.std.specs.Prelude.{◌≡◌, ◌↔◌, ℕ, ◌<◌, ◌++◌, List, Option, Some, true, false, length, slice_get, slice_index};
+ghost use Rattle.corr_game.specs.declared.notions.Notion.{Notion};
+ghost use Rattle.corr_game.specs.declared.notions.Notion.TheVariants.{Efce, Efcce, Nfcce};
+ghost use Rattle.corr_game.specs.declared.nodes.SetId.{SetId};
+ghost use Rattle.corr_game.specs.declared.sides.Side.{Side};
+ghost use Rattle.corr_game.specs.Game.{GameView, IsGame};
+ghost use Rattle.equilibrium.specs.Distribution.{Entry};
+ghost use Rattle.equilibrium.specs.Equilibrium.{IsEquilibriumList, Slack};
+ghost use Rattle.equilibrium.specs.FullChoice.{graft, is_under};
+ghost use Rattle.equilibrium.specs.OwnSequence.{PlaysMoves, PlaysOwn};
+ghost use Rattle.equilibrium.specs.Reach.{leads};
+ghost use Rattle.tree_recall.specs.OwnSequence.{HasRecall, IsOwnAt};
+ghost use Rattle.tree_recall.specs.Tree.{set_of};
+
+/// A plan leads to a set exactly where it plays the own sequence of some node of the set.
+pub fn plans_lead_along_own_sequences()
+    ensures { (side : Side) (g : GameView) → IsGame g → (plan : List (Option ℕ)) (set : ℕ) → (leads side g plan set ≡ true) ↔ PlaysOwn side g plan set }
+{}
+
+/// With perfect recall that is the own sequence of whichever node of the set.
+pub fn plans_lead_by_recall()
+    ensures { (side : Side) (g : GameView) → IsGame g → HasRecall g side → (plan : List (Option ℕ)) (n set : ℕ) (seq : List (SetId × ℕ))
+        → set_of g side n ≡ Some set → IsOwnAt g side n seq → (leads side g plan set ≡ true) ↔ PlaysMoves plan seq }
+{}
+
+/// A graft leaves every set as it was that isn't the set of the graft or below it.
+pub fn grafts_leave_other_sets()
+    ensures { (side : Side) (g : GameView) (above : ℕ) (choice : List ℕ) (plan : List (Option ℕ)) (set : ℕ)
+        → is_under side g above set ≡ false → slice_get (graft side g above choice plan) set ≡ slice_get plan set }
+{}
+
+/// A graft has the full choice at its set and below.
+pub fn grafts_choose_below()
+    ensures { (side : Side) (g : GameView) (above : ℕ) (choice : List ℕ) (plan : List (Option ℕ)) (set : ℕ)
+        → set < length plan → is_under side g above set ≡ true → slice_get (graft side g above choice plan) set ≡ Some (Some (slice_index choice set)) }
+{}
+
+/// An extensive-form correlated equilibrium is a coarse one.
+pub fn told_sets_are_reached()
+    ensures { (g : GameView) (list : List Entry) → IsEquilibriumList Efce g (record { num = 0; den = 1 }) list
+        → IsEquilibriumList Efcce g (record { num = 0; den = 1 }) list }
+{}
+
+/// Two equilibrium lists, one behind the other, are one.
+pub fn lists_together()
+    ensures { (notion : Notion) (g : GameView) (slack : Slack) (xs ys : List Entry) → IsEquilibriumList notion g slack xs
+        → IsEquilibriumList notion g slack ys → IsEquilibriumList notion g slack (xs ++ ys) }
+{}
