@@ -1,6 +1,7 @@
 pub mod Choosing
 pub mod Coming
 pub mod Descents
+pub mod Mixing
 pub mod Nesting
 pub mod Splitting
 pub mod Together

@@ -1,5 +1,5 @@
 -- Reached points: the expected payoffs of equilibrium lists (von Stengel and Forges 2008), and mixtures of points.
-use Rattle.std.specs.Prelude.{◌≡◌, List, ℤ, pos, ◌*ℤ◌, ◌<ℤ◌}
+use Rattle.std.specs.Prelude.{◌≡◌, ℕ, List, ℤ, pos, ◌+ℤ◌, ◌*ℤ◌, ◌<ℤ◌}
 use Rattle.corr_game.specs.declared.notions.Notion.{Notion}
 use Rattle.corr_game.specs.declared.sides.Side.{Side}
 use Rattle.corr_game.specs.declared.sides.Side.TheVariants.{One, Two}
@@ -29,3 +29,11 @@ pub record IsReached (notion : Notion) (g : GameView) (slack : Slack) (point : P
   pub list : List Entry
   pub equilibrium : IsEquilibriumList notion g slack list
   pub mean : (side : Side) → IsMeanOf side g list point
+
+-- the mean of two points at these weights
+abbrev pub mixture : ℕ → Point → ℕ → Point → Point
+mixture a p b q = record {
+  x = pos a *ℤ p.x *ℤ q.den +ℤ pos b *ℤ q.x *ℤ p.den;
+  y = pos a *ℤ p.y *ℤ q.den +ℤ pos b *ℤ q.y *ℤ p.den;
+  den = (pos a +ℤ pos b) *ℤ (p.den *ℤ q.den);
+}

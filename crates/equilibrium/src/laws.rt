@@ -1,5 +1,5 @@
 // Laws of equilibrium, as functions that do nothing.
-ghost use Rattle.std.specs.Prelude.{◌≡◌, ◌↔◌, ℕ, ◌<◌, ◌++◌, List, Option, Some, true, false, length, slice_get, slice_index};
+ghost use Rattle.std.specs.Prelude.{◌≡◌, ◌↔◌, ℕ, ◌<◌, ◌≤◌, ◌++◌, List, Option, Some, true, false, length, slice_get, slice_index};
 ghost use Rattle.corr_game.specs.declared.notions.Notion.{Notion};
 ghost use Rattle.corr_game.specs.declared.notions.Notion.TheVariants.{Efce, Efcce, Nfcce};
 ghost use Rattle.corr_game.specs.declared.nodes.SetId.{SetId};
@@ -10,6 +10,7 @@ ghost use Rattle.equilibrium.specs.Equilibrium.{IsEquilibriumList, Slack};
 ghost use Rattle.equilibrium.specs.FullChoice.{graft, is_under};
 ghost use Rattle.equilibrium.specs.OwnSequence.{PlaysMoves, PlaysOwn};
 ghost use Rattle.equilibrium.specs.Reach.{leads};
+ghost use Rattle.equilibrium.specs.ReachedPoint.{IsReached, Point, mixture};
 ghost use Rattle.tree_recall.specs.OwnSequence.{HasRecall, IsOwnAt};
 ghost use Rattle.tree_recall.specs.Tree.{set_of};
 
@@ -46,4 +47,10 @@ pub fn told_sets_are_reached()
 pub fn lists_together()
     ensures { (notion : Notion) (g : GameView) (slack : Slack) (xs ys : List Entry) → IsEquilibriumList notion g slack xs
         → IsEquilibriumList notion g slack ys → IsEquilibriumList notion g slack (xs ++ ys) }
+{}
+
+/// A mixture of two reached points is reached.
+pub fn mixtures_are_reached()
+    ensures { (notion : Notion) (g : GameView) (slack : Slack) (a b : ℕ) (p q : Point) → 1 ≤ a → 1 ≤ b → IsReached notion g slack p
+        → IsReached notion g slack q → IsReached notion g slack (mixture a p b q) }
 {}
