@@ -5,7 +5,6 @@ pub mod Found
 pub mod KnownSet
 pub mod Leading
 pub mod OneTree
-pub mod PartLists
 pub mod PlaceBelow
 pub mod SetsSoFar
 pub mod WholeGame

@@ -5,12 +5,10 @@ pub mod Event
 pub mod File
 pub mod FirstForm
 pub mod Machine
-pub mod Number
 pub mod Reading
 pub mod Refusal
 pub mod Sets
 pub mod Turn
-pub mod Words
 pub mod Outline
 pub mod Places
 pub mod RawGame

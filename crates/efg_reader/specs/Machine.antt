@@ -9,7 +9,7 @@ use Rattle.efg_reader.specs.declared.state.Mover.{Mover}
 use Rattle.efg_reader.specs.declared.state.Mover.TheVariants as mover
 use Rattle.efg_reader.specs.declared.state.State.{State}
 use Rattle.efg_reader.specs.declared.state.State.TheVariants.{Format, Version, Numbers, Title, PlayersBrace, Players, Comment, Line, Name, PlayerNumber, Set, SetName, ActionsBrace, Actions, Probability, Outcome, OutcomeName, PayoffsBrace, Payoff, Payoffs}
-use Rattle.efg_reader.specs.Words as words
+use Rattle.number_words.specs.Words as words
 
 -- this state, behind this word
 abbrev pub behind_word : State → Lexeme → List ℕ → Option State

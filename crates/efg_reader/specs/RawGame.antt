@@ -6,7 +6,7 @@ use Rattle.corr_game.specs.declared.nodes.SetInfo.{SetInfo}
 use Rattle.corr_game.specs.declared.sides.Side.{Side}
 use Rattle.corr_game.specs.declared.sides.Side.TheVariants.{One, Two}
 use Rattle.corr_game.specs.Game.{GameView, IsGame}
-use Rattle.corr_num.specs.Fraction.{Fraction}
+pub use Rattle.number_words.specs.Number.{IsLimited, IsProbability}
 use Rattle.efg_reader.specs.declared.raw_game.RawNode.{RawNode}
 use Rattle.efg_reader.specs.declared.raw_game.Shape.{Shape}
 use Rattle.efg_reader.specs.declared.raw_game.Shape.TheVariants as shape
@@ -34,14 +34,6 @@ bare_nodes nodes = map (λ (n : RawNode). bare_node n.shape) nodes
 -- the game with this tree and these sets that pays nothing
 abbrev pub bare_game : RawGameView → GameView
 bare_game game = record { nodes = bare_nodes game.nodes; one = game.one; two = game.two; scale_one = pos 1; scale_two = pos 1 }
-
--- a number within the limits of the format: its numerator and denominator in lowest terms
-abbrev pub IsLimited : Fraction → Type 0
-IsLimited number = (unsigned_abs number.num ≤ 2 ^ 40) × (unsigned_abs number.den ≤ 2 ^ 24)
-
--- a probability is within the limits, and from 0 to 1
-abbrev pub IsProbability : Fraction → Type 0
-IsProbability number = IsLimited number × (pos 0 ≤ℤ number.num) × (number.num ≤ℤ number.den)
 
 -- a chance node has one probability a kid
 abbrev pub HasProbabilities : Shape → Type 0

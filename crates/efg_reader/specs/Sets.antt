@@ -6,7 +6,7 @@ use Rattle.corr_game.specs.declared.sides.Side.{Side}
 use Rattle.corr_game.specs.Node.{set_at}
 use Rattle.corr_game.specs.Sets.{AreInOrder}
 use Rattle.efg_reader.specs.Assembly.{shape_with}
-use Rattle.efg_reader.specs.Number.{IsPart}
+use Rattle.number_words.specs.Number.{IsPart}
 use Rattle.efg_reader.specs.RawGame.{bare_node}
 use Rattle.efg_reader.specs.declared.events.Bare.{Bare}
 use Rattle.efg_reader.specs.declared.events.Event.{Event}

@@ -4,7 +4,7 @@ ghost use Rattle.std.specs.Prelude.{◌≡◌, ◌+◌, ◌≤◌, ◌<◌, ◌^
 ghost use Rattle.std.specs.List.{IsDistinct};
 ghost use Rattle.indexmap.specs.IndexMap.{index_map_len, keys};
 ghost use Rattle.efg_reader.specs.Event.{is_fit, HasChances, IsDraw};
-ghost use Rattle.efg_reader.specs.Number.{IsPart};
+ghost use Rattle.number_words.specs.Number.{IsPart};
 ghost use Rattle.efg_reader.specs.RawGame.{IsProbability};
 ghost use Rattle.corr_game.specs.declared.sides.Side.TheVariants.{One, Two};
 ghost use Rattle.efg_reader.specs.Turn.{acts_in, IsTurnOf};
@@ -13,12 +13,12 @@ ghost use Rattle.efg_reader.specs.Outline.{above, places};
 ghost use Rattle.efg_reader.specs.Places.{awaited};
 ghost use Rattle.efg_reader.specs.Sets.{info_of, turn_of, AreChances, AreSetsOf, IsChoice, IsWhole};
 
-use crate::chances::{common_denominator, has_negative, sums_to_one};
+use number_words::{common_denominator, has_negative, sums_to_one};
 use crate::entry::{Entry, Turn, read_entry};
 use crate::events::{Bare, Event};
 use crate::first_lists::{FirstList, OutcomePays};
 use crate::node_line::{ActLines, LineKind, NodeLine};
-use crate::numbers::Number;
+use number_words::Number;
 use crate::outline::Outline;
 use crate::raw_file::RawFile;
 use crate::raw_game::{FracList, RawGame};

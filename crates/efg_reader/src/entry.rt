@@ -4,7 +4,7 @@ ghost use Rattle.std.specs.Prelude.{◌≡◌, ◌≤◌, ◌<◌, ◌^◌, leng
 ghost use Rattle.efg_reader.specs.Turn.{acts_in, IsTurnOf};
 
 use crate::node_line::{ActLine, ActLines, LineKind, NodeLine, PayWords};
-use crate::numbers::{Number, number_value, whole_value};
+use number_words::{Number, number_value, whole_value};
 use std::alloc::{AllocError as NoMemory, Global};
 
 /// Who moves at a line, and at which set; in a chance line the probabilities that it lists.
@@ -96,7 +96,7 @@ fn probs_of(alloc: Global, acts: &ActLines) -> Result<Option<Vec<Number>>, NoMem
 fn prob_of(act: &ActLine) -> Option<Number> {
     match &act.prob {
         Some(word) => number_value(word.as_slice()),
-        None => Some(Number::null()),
+        None => Some(Number::zero()),
     }
 }
 

@@ -3,7 +3,7 @@
 ghost use Rattle.std.specs.Prelude.{◌≤◌, length};
 
 use crate::node_line::ActLines;
-use crate::numbers::Number;
+use number_words::Number;
 
 /// The first list of a set: its actions, and in a chance set their probabilities.
 #[derive(Debug, Drop)]
@@ -25,8 +25,8 @@ impl OutcomePays {
     /// What an outcome pays that pays nothing.
     pub fn nothing() -> OutcomePays {
         OutcomePays {
-            one: Number::null(),
-            two: Number::null(),
+            one: Number::zero(),
+            two: Number::zero(),
         }
     }
 }

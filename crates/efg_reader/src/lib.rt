@@ -1,7 +1,7 @@
 //! What a game file says: its node lines by `read_lines`, and the tree, the sets and the payoffs of each node's own
 //! outcome by `build`. A file is refused by the first rule that it breaks, as `FileRefusal` lists them.
 //!
-//! It stands on the tokens of `efg_token`, the numbers of `corr_num` and the nodes and sets of `corr_game`. The layer
+//! It stands on the tokens of `efg_token`, the numbers of `number_words` and the nodes and sets of `corr_game`. The layer
 //! above may use that `Syntax` names exactly the place where the machine of the grammar stops, and that the tree and the
 //! sets of a `RawGame` keep all rules of a game, its chance nodes have a probability for each kid, and its probabilities
 //! and payoffs are within their limits. `first_form` tells the files of one terminal node with whole amounts.
@@ -10,14 +10,12 @@
 mod amounts;
 mod builder;
 mod byte_list;
-mod chances;
 mod draft;
 mod entry;
 mod events;
 mod first_lists;
 mod lines;
 mod node_line;
-mod numbers;
 mod one_node;
 mod outline;
 mod raw_file;
@@ -26,7 +24,6 @@ mod refusal;
 mod set_lists;
 mod state;
 mod tree;
-mod words;
 
 pub use builder::build;
 pub use byte_list::ByteList;

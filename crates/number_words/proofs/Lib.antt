@@ -1,0 +1,9 @@
+pub mod Digits
+pub mod Divisors
+pub mod Fractions
+pub mod Multiples
+pub mod PartLists
+pub mod Parts
+pub mod Quotients
+pub mod Signs
+pub mod Zeros

@@ -1,0 +1,4 @@
+pub mod Chances
+pub mod Number
+pub mod Value
+pub mod Words
