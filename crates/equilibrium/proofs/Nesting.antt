@@ -75,7 +75,7 @@ entry_split One g set info choice entry is there low = plan_split (λ plan. walk
 entry_split Two g set info choice entry is there low = plan_split (λ plan. walk Two g entry.one plan 0) Two g set info choice entry.two is.two there low _ refl
 
 -- without a slack to gain no more is not to get more
-no_more : (l f s t : ℤ) → (pos 1 *ℤ l) ≤ℤ (pos 1 *ℤ f +ℤ pos 0 *ℤ s *ℤ t) → l ≤ℤ f
+pub no_more : (l f s t : ℤ) → (pos 1 *ℤ l) ≤ℤ (pos 1 *ℤ f +ℤ pos 0 *ℤ s *ℤ t) → l ≤ℤ f
 no_more l f s t h = omega (arith, ints, rw (zero-*ℤ s, zero-*ℤ t, one-*ℤ l, one-*ℤ f) at h)
 
 no_more_back : (l f s t : ℤ) → l ≤ℤ f → (pos 1 *ℤ l) ≤ℤ (pos 1 *ℤ f +ℤ pos 0 *ℤ s *ℤ t)

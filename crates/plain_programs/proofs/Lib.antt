@@ -1,1 +1,2 @@
+pub mod ChickenLists
 pub mod RunningSums

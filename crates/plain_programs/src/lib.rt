@@ -6,6 +6,8 @@
 //! - `is_solution`: whether numbers solve a linear program
 #![tactic(auto)]
 
+mod samples;
 mod solutions;
 
+pub use samples::a_list_of_chicken_that_is_none;
 pub use solutions::is_solution;
