@@ -1,6 +1,6 @@
 -- Both sums are computed from the definitions: following pays player 1 20, and daring instead 21, whether told to chicken out, at the set, or
 -- from the start.
-use Rattle.std.proofs.Common.{◌≡◌, ℕ, zero, suc, ◌<◌, List, [], ◌∷◌, Some, slice_get, ℤ, pos, ◌+ℤ◌, ◌*ℤ◌, ◌≤ℤ◌, refl, arith}
+use Rattle.std.proofs.Common.{◌≡◌, ℕ, zero, suc, ◌<◌, [], ◌∷◌, Some, slice_get, ℤ, pos, ◌+ℤ◌, ◌*ℤ◌, ◌≤ℤ◌, refl, arith}
 use Rattle.std.proofs.lemmas.Int.{ints}
 use Rattle.exact_algebra.specs.Sums.{sum_over}
 use Rattle.corr_game.specs.declared.nodes.SetId.{SetId}
@@ -8,14 +8,13 @@ use Rattle.corr_game.specs.declared.nodes.SetInfo.{SetInfo}
 use Rattle.corr_game.specs.declared.notions.Notion.{Notion}
 use Rattle.corr_game.specs.declared.notions.Notion.TheVariants.{Efce, Efcce, Nfcce}
 use Rattle.corr_game.specs.declared.sides.Side.TheVariants.{One}
-use Rattle.corr_game.specs.Game.{scale_of, sets_of}
+use Rattle.corr_game.specs.Game.{scale_of}
 use Rattle.corr_game.specs.Preorder.{from_last}
 use Rattle.corr_game.specs.Walk.{walk}
-use Rattle.equilibrium.specs.declared.triggers.Trigger.{Trigger}
 use Rattle.equilibrium.specs.declared.triggers.Trigger.TheVariants.{Told, Reached, Start}
-use Rattle.equilibrium.specs.Deviation.{IsTriggerOf, following, leaving}
+use Rattle.equilibrium.specs.Deviation.{following, leaving}
 use Rattle.equilibrium.specs.Distribution.{total}
-use Rattle.equilibrium.specs.Equilibrium.{GainsNoMore, IsEquilibriumList, Slack}
+use Rattle.equilibrium.specs.Equilibrium.{IsEquilibriumList, Slack}
 use Rattle.equilibrium.specs.FullChoice.{IsFullChoice}
 use Rattle.equilibrium.specs.Reach.{comes_to}
 use Rattle.equilibrium.proofs.Nesting.{no_more}

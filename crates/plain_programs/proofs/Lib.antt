@@ -1,2 +1,4 @@
 pub mod ChickenLists
+pub mod Grafting
+pub mod Leading
 pub mod RunningSums

@@ -1,1 +1,2 @@
+pub mod ReducedAt
 pub mod Samples

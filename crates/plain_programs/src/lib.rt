@@ -3,11 +3,17 @@
 //! It stands on the crates that hold the definitions. No layer of the program stands on it: tests call it, to hold the
 //! program's answers against a definition, or to meet what a call asks for by a test.
 //!
+//! - `leads`, `is_reduced`: to which sets a plan leads, and whether it names an action at those alone
+//! - `is_below`, `graft`: the sets below another, and the plan of a player who leaves at a set
 //! - `is_solution`: whether numbers solve a linear program
 #![tactic(auto)]
 
+mod grafts;
+mod plans;
 mod samples;
 mod solutions;
 
+pub use grafts::{graft, is_below};
+pub use plans::{is_reduced, leads};
 pub use samples::a_list_of_chicken_that_is_none;
 pub use solutions::is_solution;
