@@ -3,7 +3,7 @@
 //! `check` goes over the scales and the blocks of a report in order: a corner's pairs of plans, whether a player gains by
 //! leaving the mediator, the belt of sides, each side's multipliers against the program of the notion. It stands on
 //! `incentive_rows` and `plan_polytope` for that program and on `plane_hull` for the belt. The layer above uses `check`
-//! and its `Verdict`.
+//! and its `Verdict`: sides and empty blocks of an accepted report are certified.
 #![tactic(auto)]
 
 mod blocks;

@@ -3,7 +3,7 @@
 //! `sweep` turns a direction once round, from the first player's axis counter-clockwise, and takes down each corner that
 //! it meets, with a solution there, and each side, with multipliers that certify it. It stands on `bland_simplex`, which
 //! leads from one direction's optimum to the next one's, and on `plane_hull` for directions and sides. The layer above
-//! uses the ranges of all numbers (`IsSwept`).
+//! uses what was swept (`IsSwept`): corners that solutions pay, sides that are certified at their corners, narrow numbers.
 #![tactic(auto)]
 
 mod bearings;
