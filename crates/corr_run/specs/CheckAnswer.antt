@@ -7,7 +7,7 @@ use Rattle.cert_check.specs.Fits.{AllFit}
 use Rattle.cert_check.specs.Scales.{HasScales}
 use Rattle.connected_pairs.specs.Connected.{IsPairsOf, PairsView}
 use Rattle.corr_game.specs.Game.{GameView}
-use Rattle.efg_reader.specs.Machine.{IsAccepted}
+use Rattle.efg_reader.specs.FileTokens.{HasFile}
 use Rattle.report_form.specs.declared.refusals.Refusal.{Refusal}
 use Rattle.report_form.specs.declared.refusals.Refusal.TheVariants.{Report}
 use Rattle.report_form.specs.Ranges.{IsReport}
@@ -34,7 +34,7 @@ pub record IsVerdict (g : GameView) (report : ReportView) (given : Verdict) : Ty
 pub record IsHeldAgainst (input : List ℕ) (report : ReportView) (g : GameView) (p : PairsView) : Type 0 where
   pub place : ℕ
   pub within : place ≤ length input
-  pub accepted : IsAccepted (drop place input)
+  pub accepted : HasFile (drop place input)
   pub whose : IsPairsOf g p
   pub sizes : AllFit g p report.blocks
 

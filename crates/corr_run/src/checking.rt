@@ -2,7 +2,7 @@
 ghost use Rattle.std.specs.Prelude.{◌≡◌, ◌^◌, ◌≤◌, drop, IfOk, length, MatchOption, true};
 ghost use Rattle.cert_check.specs.Fits.{AllFit};
 ghost use Rattle.connected_pairs.specs.Connected.{IsPairsOf};
-ghost use Rattle.efg_reader.specs.Machine.{IsAccepted};
+ghost use Rattle.efg_reader.specs.FileTokens.{HasFile};
 ghost use Rattle.corr_run.specs.CheckAnswer.{CheckAnswer, verdict_status};
 ghost use Rattle.corr_run.specs.Refusals.{IsOfInput};
 
@@ -54,7 +54,7 @@ fn judged(
 ) -> Result<Answer, AllocError>
     requires short { length input.now ≤ 2 ^ 30 }
     requires within { place ≤ length input.now }
-    requires accepted { IsAccepted (drop place input.now) }
+    requires accepted { HasFile (drop place input.now) }
     requires whose { IsPairsOf ready.now.game ready.now.pairs }
     ensures { IfOk result (λ answer. CheckAnswer input.now answer.text.items answer.status) }
 {

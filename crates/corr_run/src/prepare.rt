@@ -1,6 +1,6 @@
 // From the bytes of a file to a game that may be solved.
 ghost use Rattle.std.specs.Prelude.{◌≡◌, ◌<◌, ◌≤◌, ◌^◌, length, IfErr, IfOk};
-ghost use Rattle.efg_reader.specs.Machine.{IsAccepted};
+ghost use Rattle.efg_reader.specs.FileTokens.{HasFile};
 ghost use Rattle.tree_recall.specs.LastMove.{IsRecallOf};
 ghost use Rattle.connected_pairs.specs.Connected.{IsPairsOf};
 ghost use Rattle.triangle_test.specs.Triangle.{IsTriangle};
@@ -104,7 +104,7 @@ pub fn prepare(alloc: Global, bytes: &[u8]) -> Result<Ready, ReadyEnd>
     ensures ready { IfOk result (λ ready. IsPairsOf ready.game ready.pairs) }
     ensures no_triangle { IfOk result (λ ready. (quad : Four) → IsTriangle ready.pairs quad → ⊥) }
     ensures scaled { IfOk result (λ ready. IsScaledFromSome ready.game) }
-    ensures accepted { IfOk result (λ ready. IsAccepted bytes.now) }
+    ensures accepted { IfOk result (λ ready. HasFile bytes.now) }
     ensures refused { IfErr result IsReadyEnd }
 {
     let raw = build(alloc, read_lines(alloc, bytes)?)?;

@@ -2,8 +2,11 @@ pub mod Above
 pub mod Amount
 pub mod Assembly
 pub mod Event
+pub mod Draft
 pub mod File
+pub mod FileTokens
 pub mod FirstForm
+pub mod Grammar
 pub mod Machine
 pub mod Reading
 pub mod Refusal

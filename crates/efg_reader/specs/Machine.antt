@@ -1,6 +1,5 @@
 -- The grammar of files as a machine that reads one token after the other.
-use Rattle.std.specs.Prelude.{◌≡◌, ℕ, ◌+◌, ◌-◌, Bool, true, false, not, nat_eq, if◌then◌else◌, List, [], ◌∷◌, length, Option, Some, None, is_none, codes}
-use Rattle.efg_token.specs.Front.{Front, front, found, blank, unended, gap}
+use Rattle.std.specs.Prelude.{ℕ, Bool, true, false, nat_eq, if◌then◌else◌, List, [], ◌∷◌, Option, Some, None, codes}
 use Rattle.std.specs.Cmp.Lexicographic.{pointwise}
 use Rattle.efg_token.specs.Lexeme.{Lexeme, text, brace_left, brace_right, comma, word}
 use Rattle.efg_reader.specs.declared.state.Letter.{Letter}
@@ -132,38 +131,17 @@ is_whole OutcomeName = true
 is_whole PayoffsBrace = true
 is_whole other = false
 
--- These tokens stand first in the bytes and lead from one state to another; the rest is what is behind them.
-abbrev pub Leads : State → List ℕ → List Lexeme → State → List ℕ → Type 0
-Leads state bytes [] end rest = (state ≡ end) × (bytes ≡ rest)
-Leads state bytes (token ∷ tokens) end rest =
-    (next : State) × (behind : List ℕ) × (front bytes ≡ found token behind) × (after state token ≡ Some next) × Leads next behind tokens end rest
+-- the state to which these tokens lead, or none where one of them doesn't go on
+abbrev pub led : Option State → List Lexeme → Option State
+led state [] = state
+led None (token ∷ tokens) = None
+led (Some state) (token ∷ tokens) = led (after state token) tokens
 
--- a state behind which no file goes on so, or ends so
-abbrev pub stops : State → Front → Bool
-stops state blank = not (is_whole state)
-stops state (found token rest) = is_none (after state token)
-stops state unended = true
+-- the machine may end there
+abbrev pub is_end : Option State → Bool
+is_end None = false
+is_end (Some state) = is_whole state
 
--- where the next token begins, and where there is none the number of bytes
-abbrev pub place : List ℕ → List ℕ → Front → ℕ
-place bytes rest blank = length bytes
-place bytes rest (found token behind) = length bytes - length rest + gap rest
-place bytes rest unended = length bytes - length rest + gap rest
-
--- the tokens of the bytes lead to this place, and stop there
-pub record StopsAt (bytes : List ℕ) (at : ℕ) : Type 0 where
-  pub tokens : List Lexeme
-  pub state : State
-  pub rest : List ℕ
-  pub leads : Leads Format bytes tokens state rest
-  pub stops_there : stops state (front rest) ≡ true
-  pub at_place : at ≡ place bytes rest (front rest)
-
--- all tokens of the bytes lead to a state in which a file may end
-pub record IsAccepted (bytes : List ℕ) : Type 0 where
-  pub tokens : List Lexeme
-  pub state : State
-  pub rest : List ℕ
-  pub leads : Leads Format bytes tokens state rest
-  pub over : front rest ≡ blank
-  pub whole : is_whole state ≡ true
+-- all these tokens lead from the beginning to a state in which a file may end
+abbrev pub accepts : List Lexeme → Bool
+accepts tokens = is_end (led (Some Format) tokens)

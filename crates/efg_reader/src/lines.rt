@@ -1,7 +1,10 @@
-ghost use Rattle.std.specs.Prelude.{◌≡◌, ◌+◌, ◌^◌, ◌<◌, ◌≤◌, length, OnOk};
+ghost use Rattle.std.specs.Prelude.{◌≡◌, ◌+◌, ◌^◌, ◌<◌, ◌≤◌, length, OnOk, IfOk};
+ghost use Rattle.efg_token.specs.Seen.{lexeme};
 ghost use Rattle.efg_reader.specs.declared.state.State.TheVariants.{Format};
-ghost use Rattle.efg_reader.specs.Machine.{IsAccepted, StopsAt};
-ghost use Rattle.efg_reader.specs.Refusal.{MatchSyntax};
+ghost use Rattle.efg_reader.specs.Draft.{start, is_player, ends_line, counted, line_ended, line_closed, gone_to, stepped, is_last_open, finished};
+ghost use Rattle.efg_reader.specs.FileTokens.{IsFileOf, StopsAt};
+ghost use Rattle.efg_reader.specs.Machine.{after, is_whole};
+ghost use Rattle.efg_reader.specs.Refusal.{MatchSyntax, place_in};
 
 use crate::draft::Draft;
 use crate::node_line::NodeLine;
@@ -10,6 +13,7 @@ use crate::refusal::FileRefusal;
 use crate::state::{Letter, State};
 use efg_token::{Token, TokenFault, Tokens};
 use std::alloc::{AllocError as NoMemory, Global};
+use std::marker::Model;
 use std::mem;
 
 /// The players' number and the node lines of a file.
@@ -18,22 +22,24 @@ use std::mem;
 /// no file begins, a text that doesn't end among them; where the bytes only end too early, it is their number.
 pub fn read_lines(alloc: Global, bytes: &[u8]) -> Result<RawFile, FileRefusal>
     requires { length bytes.now ≤ 2 ^ 30 }
-    ensures { MatchSyntax result (IsAccepted bytes.now) (StopsAt bytes.now) }
+    ensures { MatchSyntax result (IsFileOf bytes.now) (StopsAt bytes.now) }
 {
     let mut tokens = Tokens::new(bytes);
     let mut reader = Reader::new(alloc);
     while let Some(next) = tokens.next() {
         match next {
             Ok(spot) => {
-                let Some(state) = reader.state.after(spot.token) else {
+                let Some(state) = reader.after(spot.token) else {
                     return Err(FileRefusal::Syntax { at: spot.at });
                 };
                 reader.step(spot.token, state)?;
             }
-            Err(TokenFault::Unterminated { at }) => return Err(FileRefusal::Syntax { at }),
+            Err(fault) => return Err(FileRefusal::Syntax {
+                at: place_of(fault),
+            }),
         }
     }
-    if !reader.state.is_whole() {
+    if !reader.is_whole() {
         return Err(FileRefusal::Syntax { at: bytes.len() });
     }
     Ok(reader.finish()?)
@@ -49,10 +55,17 @@ struct Reader {
     draft: Draft,
 }
 
+impl Model for Reader {
+    ghost use Rattle.efg_reader.specs.Draft.{Progress};
+
+    ghost Value = { Progress };
+
+    ghost view = { λ r. record { state = r.state; players = r.players; lines = r.lines.items; draft = r.draft } };
+}
+
 impl Reader {
     fn new(alloc: Global) -> Reader
-        ensures players { result.players ≡ 0 }
-        ensures state { result.state ≡ Format }
+        ensures { result ≡ start Format }
     {
         Reader {
             alloc,
@@ -63,37 +76,64 @@ impl Reader {
         }
     }
 
+    /// The state behind one more token; none where no file goes on so.
+    fn after(&self, token: Token) -> Option<State>
+        ensures { result ≡ after self.now.state (lexeme token.entry) }
+    {
+        self.state.after(token)
+    }
+
+    /// Whether the tokens so far are a file.
+    fn is_whole(&self) -> bool
+        ensures { result ≡ is_whole self.now.state }
+    {
+        self.state.is_whole()
+    }
+
     /// Takes a token, behind which the state is `next`.
     fn step(&mut self, token: Token, next: State) -> Result<(), NoMemory>
         requires { self.old.players + 1 < 2 ^ 32 }
-        ensures players { OnOk result (self.new.players ≤ self.old.players + 1) }
-        ensures state { OnOk result (self.new.state ≡ next) }
+        ensures { OnOk result (self.new ≡ stepped self.old.state (lexeme token.entry) next self.old) }
     {
-        if let (State::Players, Token::Text(_)) = (self.state, token) {
-            self.players += 1;
-        }
+        self.count_player(token);
         self.draft.keep(self.state, token)?;
-        if self.ends_line(next) {
-            self.end_line()?;
-        }
-        if let State::Name(letter) = next {
-            self.draft = Draft::new(self.alloc, letter);
-        }
-        self.state = next;
+        self.close_line(next)?;
+        self.go_to(next);
         Ok(())
     }
 
-    /// Whether the line that is read has all its tokens, where the state goes over to `next`.
-    fn ends_line(&self, next: State) -> bool {
-        match self.state {
-            State::OutcomeName | State::PayoffsBrace => matches!(next, State::Name(_)),
-            State::Payoffs => matches!(next, State::Line),
-            _ => false,
+    /// Counts the token where it is the name of a player.
+    fn count_player(&mut self, token: Token)
+        requires { self.old.players + 1 < 2 ^ 32 }
+        ensures { self.new ≡ counted (lexeme token.entry) self.old }
+    {
+        if is_player(self.state, token) {
+            self.players += 1;
+        }
+    }
+
+    /// Puts the line that is read to the others, where it has all its tokens as the state goes over to `next`.
+    fn close_line(&mut self, next: State) -> Result<(), NoMemory>
+        ensures { OnOk result (self.new ≡ line_closed next self.old) }
+    {
+        if !ends_line(self.state, next) {
+            return Ok(());
+        }
+        self.end_line()
+    }
+
+    /// Goes over to a state; a line that begins there has a draft of its own.
+    fn go_to(&mut self, next: State)
+        ensures { self.new ≡ gone_to next self.old }
+    {
+        self.state = next;
+        if let State::Name(letter) = next {
+            self.draft = Draft::new(self.alloc, letter);
         }
     }
 
     fn end_line(&mut self) -> Result<(), NoMemory>
-        ensures players { self.new.players ≡ self.old.players }
+        ensures { OnOk result (self.new ≡ line_ended self.old) }
     {
         let draft = mem::replace(&mut self.draft, Draft::new(self.alloc, Letter::Leaf));
         self.lines.push(draft.finish())?;
@@ -101,10 +141,18 @@ impl Reader {
     }
 
     /// The file, of which all tokens have been read.
-    fn finish(mut self) -> Result<RawFile, NoMemory> {
-        if let State::OutcomeName | State::PayoffsBrace = self.state {
+    fn finish(mut self) -> Result<RawFile, NoMemory>
+        ensures { IfOk result (λ file. file ≡ finished self.state self) }
+    {
+        if is_last_open(self.state) {
             self.end_line()?;
         }
+        Ok(self.into_file())
+    }
+
+    fn into_file(self) -> RawFile
+        ensures { result ≡ record { players = self.players; lines = self.lines } }
+    {
         let Reader {
             alloc: _,
             state: _,
@@ -112,6 +160,39 @@ impl Reader {
             lines,
             draft: _,
         } = self;
-        Ok(RawFile::of(players, lines))
+        RawFile::of(players, lines)
     }
+}
+
+/// Where the text begins that doesn't end.
+fn place_of(fault: TokenFault) -> usize
+    ensures { result ≡ place_in fault }
+{
+    let TokenFault::Unterminated { at } = fault;
+    at
+}
+
+/// Whether the token is the name of a player.
+fn is_player(state: State, token: Token) -> bool
+    ensures { result ≡ is_player state (lexeme token.entry) }
+{
+    matches!((state, token), (State::Players, Token::Text(_)))
+}
+
+/// Whether the line that is read has all its tokens, where the state goes over to `next`.
+fn ends_line(state: State, next: State) -> bool
+    ensures { result ≡ ends_line state next }
+{
+    match state {
+        State::OutcomeName | State::PayoffsBrace => matches!(next, State::Name(_)),
+        State::Payoffs => matches!(next, State::Line),
+        _ => false,
+    }
+}
+
+/// Whether the end of the file ends the last line.
+fn is_last_open(state: State) -> bool
+    ensures { result ≡ is_last_open state }
+{
+    matches!(state, State::OutcomeName | State::PayoffsBrace)
 }

@@ -1,9 +1,11 @@
--- The tokens so far lead to the state. Each token ends behind its first byte, so they are no more than the bytes passed.
+-- The tokens so far lead the reader to where it is. Each token ends behind its first byte, so they are no more than the bytes passed.
 use Rattle.std.proofs.Common.{length, ◌-◌, ◌≡◌, ◌≤◌, List}
 use Rattle.efg_token.specs.Cursor.{left}
 use Rattle.efg_token.specs.Lexeme.{Lexeme}
 use Rattle.efg_reader.specs.declared.state.State.TheVariants.{Format}
-use Rattle.efg_reader.specs.Machine.{Leads}
+use Rattle.efg_reader.specs.Draft.{start}
+use Rattle.efg_reader.specs.FileTokens.{StandFirst}
+use Rattle.efg_reader.proofs.ReadsBack.{Reads}
 use Rattle.efg_reader.proofs.lines.read_lines.Given as goal
 
 abbrev pub invariant-loop-next : goal.invariant-loop-next
@@ -12,7 +14,8 @@ invariant-loop-next l = record {
   within : l.tokens.at ≤ length l.bytes;
   counted : l.reader.players ≤ l.tokens.at;
   passed : List Lexeme;
-  leads : Leads Format l.bytes passed l.reader.state (left l.tokens);
+  stand : StandFirst l.bytes passed (left l.tokens);
+  reads : Reads (start Format) passed l.reader;
 }
 
 abbrev pub decreases-loop-next : goal.decreases-loop-next
