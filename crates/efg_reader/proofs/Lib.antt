@@ -6,6 +6,7 @@ pub mod FileEnds
 pub mod FileLeft
 pub mod Found
 pub mod KnownSet
+pub mod ListedValues
 pub mod OneTree
 pub mod PlaceBelow
 pub mod ReadsBack

@@ -1,6 +1,7 @@
 pub mod Above
 pub mod Amount
 pub mod Assembly
+pub mod Entry
 pub mod Event
 pub mod Draft
 pub mod File
@@ -8,10 +9,11 @@ pub mod FileTokens
 pub mod FirstForm
 pub mod Grammar
 pub mod Machine
-pub mod Reading
-pub mod Refusal
-pub mod Sets
-pub mod Turn
 pub mod Outline
 pub mod Places
 pub mod RawGame
+pub mod Reading
+pub mod Refusal
+pub mod Rules
+pub mod Sets
+pub mod Turn

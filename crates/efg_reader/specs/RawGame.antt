@@ -1,5 +1,5 @@
 -- A game as its file says.
-use Rattle.std.specs.Prelude.{◌≡◌, ℕ, ◌^◌, ◌≤◌, List, length, map, All, Some, slice_get, pos, ◌≤ℤ◌, unsigned_abs}
+use Rattle.std.specs.Prelude.{◌≡◌, ℕ, List, length, map, All, Some, slice_get, pos}
 use Rattle.corr_game.specs.declared.nodes.Node.{Node}
 use Rattle.corr_game.specs.declared.nodes.Node.TheVariants as node
 use Rattle.corr_game.specs.declared.nodes.SetInfo.{SetInfo}

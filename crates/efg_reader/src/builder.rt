@@ -1,6 +1,6 @@
 //! The rules at the nodes of a file, one line after the other.
 
-ghost use Rattle.std.specs.Prelude.{◌≡◌, ◌+◌, ◌≤◌, ◌<◌, ◌^◌, length, vec_len, map, slice_get, Some, IsTrue, IfOk, IfSome, OnOk, All, nat_eq, option_map, ◌++◌, ◌∷◌, []};
+ghost use Rattle.std.specs.Prelude.{◌≡◌, ◌+◌, ◌≤◌, ◌<◌, ◌^◌, length, vec_len, map, slice_get, Some, IsTrue, IfOk, IfSome, OnOk, All, nat_eq, option_map, ◌==◌, ◌++◌, ◌∷◌, []};
 ghost use Rattle.std.specs.List.{IsDistinct};
 ghost use Rattle.indexmap.specs.IndexMap.{index_map_len, keys};
 ghost use Rattle.efg_reader.specs.Event.{is_fit, HasChances, IsDraw};
@@ -11,14 +11,13 @@ ghost use Rattle.efg_reader.specs.Turn.{acts_in, IsTurnOf};
 ghost use Rattle.efg_reader.specs.Above.{AreShallow};
 ghost use Rattle.efg_reader.specs.Outline.{above, places};
 ghost use Rattle.efg_reader.specs.Places.{awaited};
+ghost use Rattle.efg_reader.specs.Rules.{refusal_in, action_rules, chance_rules, list_chance_rules, place_rules};
 ghost use Rattle.efg_reader.specs.Sets.{info_of, turn_of, AreChances, AreSetsOf, IsChoice, IsWhole};
 
-use number_words::{common_denominator, has_negative, sums_to_one};
 use crate::entry::{Entry, Turn, read_entry};
 use crate::events::{Bare, Event};
 use crate::first_lists::{FirstList, OutcomePays};
 use crate::node_line::{ActLines, LineKind, NodeLine};
-use number_words::Number;
 use crate::outline::Outline;
 use crate::raw_file::RawFile;
 use crate::raw_game::{FracList, RawGame};
@@ -27,6 +26,7 @@ use crate::set_lists::{define_set, list_at};
 use crate::tree::assemble;
 use corr_game::{SetId, SetInfo, Side};
 use indexmap::IndexMap;
+use number_words::{Number, common_denominator, has_negative, sums_to_one};
 use std::alloc::{AllocError as NoMemory, Global};
 
 /// The game that a file says.
@@ -117,6 +117,7 @@ impl<'a> Builder<'a> {
 
     /// The rules on the place of a node in the tree.
     fn check_place(&self, node: u32) -> Result<(), FileRefusal>
+        ensures refusal { refusal_in result ≡ place_rules node (places self.now.outline == 0) (length (above self.now.outline)) }
         ensures few { OnOk result (node < 4096) }
         ensures waits { OnOk result (0 < places self.now.outline) }
         ensures shallow { OnOk result (length (above self.now.outline) ≤ 256) }
@@ -252,7 +253,8 @@ fn checked_list<'a>(
     probs: Vec<Number>,
     node: u32,
 ) -> Result<Option<FirstList<'a>>, FileRefusal>
-    ensures { IfSome acts.entry (λ lines. length probs.items ≡ length lines.now) → IfOk result (λ list. IfSome list IsWhole) }
+    ensures refusal { refusal_in result ≡ action_rules node (option_map (λ lines. lines.now) acts.entry) }
+    ensures whole { IfSome acts.entry (λ lines. length probs.items ≡ length lines.now) → IfOk result (λ list. IfSome list IsWhole) }
 {
     let Some(acts) = acts else {
         return Ok(None);
@@ -288,7 +290,8 @@ fn take_chance<'a>(
 
 /// The rules on the probabilities, where the line has a list.
 fn check_list_chances(list: &Option<FirstList>, node: u32) -> Result<(), FileRefusal>
-    ensures { OnOk result (IfSome list.now (λ own. All IsPart own.probs.items)) }
+    ensures refusal { refusal_in result ≡ list_chance_rules node list.now }
+    ensures parts { OnOk result (IfSome list.now (λ own. All IsPart own.probs.items)) }
 {
     match list {
         Some(list) => check_chances(list.probs.as_slice(), node),
@@ -297,7 +300,8 @@ fn check_list_chances(list: &Option<FirstList>, node: u32) -> Result<(), FileRef
 }
 
 fn check_chances(probs: &[Number], node: u32) -> Result<(), FileRefusal>
-    ensures { OnOk result (All IsPart probs.now) }
+    ensures refusal { refusal_in result ≡ chance_rules node probs.now }
+    ensures parts { OnOk result (All IsPart probs.now) }
 {
     if has_negative(probs) {
         return Err(FileRefusal::ChanceNegative { node });

@@ -1,6 +1,8 @@
 //! The numbers of a node line.
 
-ghost use Rattle.std.specs.Prelude.{◌≡◌, ◌≤◌, ◌<◌, ◌^◌, length, vec_len, IfOk, IfSome};
+ghost use Rattle.std.specs.Prelude.{◌≡◌, ◌≤◌, ◌<◌, ◌^◌, length, vec_len, option_map, IfOk, IfSome};
+ghost use Rattle.number_words.specs.Value.{number_value};
+ghost use Rattle.efg_reader.specs.Entry.{mover, mover_of, numbers, numbers_of, payoffs, probabilities, probability, values};
 ghost use Rattle.efg_reader.specs.Turn.{acts_in, IsTurnOf};
 
 use crate::node_line::{ActLine, ActLines, LineKind, NodeLine, PayWords};
@@ -25,7 +27,8 @@ pub struct Entry {
 
 /// The numbers of a line; none where one of them passes its limit.
 pub fn read_entry(alloc: Global, line: &NodeLine) -> Result<Option<Entry>, NoMemory>
-    ensures { IfOk result (λ entry. IfSome entry (λ it. IsTurnOf line.now.kind it.turn)) }
+    ensures value { IfOk result (λ entry. option_map numbers_of entry ≡ numbers line.now) }
+    ensures turn { IfOk result (λ entry. IfSome entry (λ it. IsTurnOf line.now.kind it.turn)) }
 {
     let Some(turn) = read_turn(alloc, &line.kind)? else {
         return Ok(None);
@@ -44,7 +47,8 @@ pub fn read_entry(alloc: Global, line: &NodeLine) -> Result<Option<Entry>, NoMem
 }
 
 fn read_turn(alloc: Global, kind: &LineKind) -> Result<Option<Turn>, NoMemory>
-    ensures { IfOk result (λ turn. IfSome turn (IsTurnOf kind.now)) }
+    ensures value { IfOk result (λ turn. option_map mover_of turn ≡ mover kind.now) }
+    ensures turn { IfOk result (λ turn. IfSome turn (IsTurnOf kind.now)) }
 {
     match kind {
         LineKind::Chance { set, acts } => {
@@ -71,7 +75,8 @@ fn read_turn(alloc: Global, kind: &LineKind) -> Result<Option<Turn>, NoMemory>
 
 /// A probability for each action of the list.
 fn read_probs(alloc: Global, acts: &Option<ActLines>) -> Result<Option<Vec<Number>>, NoMemory>
-    ensures { IfOk result (λ probs. IfSome probs (λ it. IfSome acts.now (λ lines. vec_len it ≡ length lines))) }
+    ensures value { IfOk result (λ probs. option_map (λ list. list.items) probs ≡ probabilities acts.now) }
+    ensures count { IfOk result (λ probs. IfSome probs (λ it. IfSome acts.now (λ lines. vec_len it ≡ length lines))) }
 {
     match acts {
         Some(acts) => probs_of(alloc, acts),
@@ -80,7 +85,8 @@ fn read_probs(alloc: Global, acts: &Option<ActLines>) -> Result<Option<Vec<Numbe
 }
 
 fn probs_of(alloc: Global, acts: &ActLines) -> Result<Option<Vec<Number>>, NoMemory>
-    ensures { IfOk result (λ probs. IfSome probs (λ it. vec_len it ≡ length acts.now)) }
+    ensures value { IfOk result (λ probs. option_map (λ list. list.items) probs ≡ values probability acts.now) }
+    ensures count { IfOk result (λ probs. IfSome probs (λ it. vec_len it ≡ length acts.now)) }
 {
     let mut probs = Vec::new(alloc);
     for k in 0..acts.len() {
@@ -93,22 +99,34 @@ fn probs_of(alloc: Global, acts: &ActLines) -> Result<Option<Vec<Number>>, NoMem
 }
 
 /// The probability of an action, 0 where the line has no word for it; none where it passes its limit.
-fn prob_of(act: &ActLine) -> Option<Number> {
+fn prob_of(act: &ActLine) -> Option<Number>
+    ensures { result ≡ probability act.now }
+{
     match &act.prob {
         Some(word) => number_value(word.as_slice()),
         None => Some(Number::zero()),
     }
 }
 
-fn read_pays(alloc: Global, words: &Option<PayWords>) -> Result<Option<Vec<Number>>, NoMemory> {
+/// The payoffs of the list.
+fn read_pays(alloc: Global, words: &Option<PayWords>) -> Result<Option<Vec<Number>>, NoMemory>
+    ensures { IfOk result (λ pays. option_map (λ list. list.items) pays ≡ payoffs words.now) }
+{
+    match words {
+        Some(words) => pays_of(alloc, words),
+        None => Ok(Some(Vec::new(alloc))),
+    }
+}
+
+fn pays_of(alloc: Global, words: &PayWords) -> Result<Option<Vec<Number>>, NoMemory>
+    ensures { IfOk result (λ pays. option_map (λ list. list.items) pays ≡ values number_value words.now) }
+{
     let mut pays = Vec::new(alloc);
-    if let Some(words) = words {
-        for k in 0..words.len() {
-            let Some(pay) = number_value(words.at(k).as_slice()) else {
-                return Ok(None);
-            };
-            pays.push(pay)?;
-        }
+    for k in 0..words.len() {
+        let Some(pay) = number_value(words.at(k).as_slice()) else {
+            return Ok(None);
+        };
+        pays.push(pay)?;
     }
     Ok(Some(pays))
 }

@@ -4,8 +4,8 @@ ghost use Rattle.std.specs.Prelude.{◌≡◌};
 ghost use Rattle.efg_token.specs.Seen.{lexeme};
 ghost use Rattle.efg_reader.specs.Machine.{after, is_whole, behind_word, behind_text, behind_brace, behind_whole, behind_number, in_list, behind_comment, behind_line, behind_name, behind_set, behind_set_name, behind_action, behind_outcome, behind_outcome_name, behind_payoff};
 
-use number_words::{is_number, is_whole};
 use efg_token::Token;
+use number_words::{is_number, is_whole};
 
 /// What a node line begins with.
 #[derive(Clone, Copy, Debug, PartialEq, Eq)]
