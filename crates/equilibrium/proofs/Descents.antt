@@ -16,23 +16,23 @@ use Rattle.equilibrium.specs.OwnSequence.{PlaysMoves, PlaysOwn}
 use Rattle.equilibrium.specs.Reach.{allows, comes_step, comes_to, is_set, leads, names, some_kid}
 use Rattle.equilibrium.proofs.Coming.{comes_to-node, some_kid-at}
 
-first_true : (a b : Bool) → (a && b) ≡ true → a ≡ true
+pub first_true : (a b : Bool) → (a && b) ≡ true → a ≡ true
 first_true true b h = refl
 first_true false b h = absurd (cc)
 
-second_true : (a b : Bool) → (a && b) ≡ true → b ≡ true
+pub second_true : (a b : Bool) → (a && b) ≡ true → b ≡ true
 second_true true b h = h
 second_true false b h = absurd (cc)
 
-is_set-same : (set : ℕ) (there : Option ℕ) → is_set set there ≡ true → there ≡ Some set
+pub is_set-same : (set : ℕ) (there : Option ℕ) → is_set set there ≡ true → there ≡ Some set
 is_set-same set None h = absurd (cc)
 is_set-same set (Some at) h = ap (λ (n : ℕ). Some n) (eqb-true at set h)
 
-is_set-here : (set : ℕ) (there : Option ℕ) → there ≡ Some set → is_set set there ≡ true
+pub is_set-here : (set : ℕ) (there : Option ℕ) → there ≡ Some set → is_set set there ≡ true
 is_set-here set there h = rw h (eq-eqb set set refl)
 
 -- some kid is an allowed one that has the property
-some_kid-found : (allowed has : ℕ → Bool) (first : ℕ) (kids : List ℕ) → some_kid allowed has first kids ≡ true
+pub some_kid-found : (allowed has : ℕ → Bool) (first : ℕ) (kids : List ℕ) → some_kid allowed has first kids ≡ true
     → (k : ℕ) × (kid : ℕ) × (slice_get kids k ≡ Some kid) × (allowed (first + k) ≡ true) × (has kid ≡ true)
 some_kid-found allowed has first [] h = absurd (cc)
 some_kid-found allowed has first (x ∷ xs) h = elim (cases_Bool (allowed first && has x)) [
@@ -46,10 +46,10 @@ some_kid-found allowed has first (x ∷ xs) h = elim (cases_Bool (allowed first 
 ]
 
 -- what a node hands to each kid to which an allowed action leads
-abbrev HandsOn : (Node → ℕ → Bool) → GameView → (ℕ → Type 0) → Type 0
+abbrev pub HandsOn : (Node → ℕ → Bool) → GameView → (ℕ → Type 0) → Type 0
 HandsOn allowed g P = (n action kid : ℕ) (node : Node) → slice_get g.nodes n ≡ Some node → allowed node action ≡ true → slice_get (kids_of node) action ≡ Some kid → P n → P kid
 
-kid_inside : (g : GameView) → IsGame g → (n action kid : ℕ) (node : Node) → slice_get g.nodes n ≡ Some node → slice_get (kids_of node) action ≡ Some kid
+pub kid_inside : (g : GameView) → IsGame g → (n action kid : ℕ) (node : Node) → slice_get g.nodes n ≡ Some node → slice_get (kids_of node) action ≡ Some kid
     → (n < kid) × (kid < length g.nodes)
 kid_inside g rules n action kid node there e =
     let kid_is : kid_of g n action ≡ Some kid = ap (kid_there action) there ∙ e in
@@ -147,7 +147,7 @@ leads_plays side g rules plan set h =
     let end = handed_down (allows side plan) side g rules set (Named side g plan) hands (length g.nodes) 0 (omega arith) rules.has_root ([], at_root, tt) h in
     (end.0, end.2.0, end.1, end.2.1, end.2.2)
 
-node_there : (side : Side) (nodes : List Node) (n action kid : ℕ) → kid_there action (slice_get nodes n) ≡ Some kid
+pub node_there : (side : Side) (nodes : List Node) (n action kid : ℕ) → kid_there action (slice_get nodes n) ≡ Some kid
     → (node : Node) × (slice_get nodes n ≡ Some node) × (slice_get (kids_of node) action ≡ Some kid)
 node_there side [] n action kid h = absurd (cc)
 node_there side (node ∷ nodes) zero action kid h = (node, refl, h)

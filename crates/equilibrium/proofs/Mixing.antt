@@ -1,6 +1,6 @@
 -- A list with each weight times a number pays as many times as much; so two equilibrium lists, each times the other's total and its point's
 -- weight, pay a mixture of their points.
-use Rattle.std.proofs.Common.{◌≡◌, ◌+◌, ◌*◌, ◌≤◌, ◌<◌, ℕ, suc, List, [], ◌∷◌, ◌++◌, All, map, ℤ, pos, negsuc, ◌+ℤ◌, ◌*ℤ◌, ◌≤ℤ◌, ◌<ℤ◌, refl, sym, ap, ap₂, ◌∙◌, arith}
+use Rattle.std.proofs.Common.{◌≡◌, ◌*◌, ◌≤◌, ℕ, List, [], ◌∷◌, ◌++◌, map, ℤ, pos, negsuc, ◌+ℤ◌, ◌*ℤ◌, ◌≤ℤ◌, ◌<ℤ◌, refl, ap₂, ◌∙◌, arith}
 use Rattle.std.proofs.lemmas.Int.{ints}
 use Rattle.std.proofs.lemmas.Nat.{mul-le}
 use Rattle.std.proofs.lemmas.List.Elements.{All-map}
@@ -16,7 +16,7 @@ use Rattle.corr_game.specs.declared.sides.Side.TheVariants.{One, Two}
 use Rattle.corr_game.specs.Game.{GameView, scale_of}
 use Rattle.equilibrium.specs.declared.triggers.Trigger.{Trigger}
 use Rattle.equilibrium.specs.Deviation.{deviated_pay, following, leaving}
-use Rattle.equilibrium.specs.Distribution.{Entry, IsEntry, pay, total, weighted}
+use Rattle.equilibrium.specs.Distribution.{Entry, IsEntry, pay, total}
 use Rattle.equilibrium.specs.Equilibrium.{IsEquilibriumList, Slack}
 use Rattle.equilibrium.specs.ReachedPoint.{IsMeanOf, IsReached, Point, coordinate, mixture}
 use Rattle.equilibrium.proofs.Together.{lists_append}

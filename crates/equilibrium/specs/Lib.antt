@@ -1,3 +1,4 @@
+pub mod Below
 pub mod Deviation
 pub mod Distribution
 pub mod Equilibrium

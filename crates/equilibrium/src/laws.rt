@@ -9,7 +9,8 @@ ghost use Rattle.equilibrium.specs.Distribution.{Entry};
 ghost use Rattle.equilibrium.specs.Equilibrium.{IsEquilibriumList, Slack};
 ghost use Rattle.equilibrium.specs.FullChoice.{graft, is_under};
 ghost use Rattle.equilibrium.specs.OwnSequence.{PlaysMoves, PlaysOwn};
-ghost use Rattle.equilibrium.specs.Reach.{leads};
+ghost use Rattle.equilibrium.specs.Below.{HasNodeAbove};
+ghost use Rattle.equilibrium.specs.Reach.{is_below, leads};
 ghost use Rattle.equilibrium.specs.ReachedPoint.{IsReached, Point, mixture};
 ghost use Rattle.tree_recall.specs.OwnSequence.{HasRecall, IsOwnAt};
 ghost use Rattle.tree_recall.specs.Tree.{set_of};
@@ -23,6 +24,11 @@ pub fn plans_lead_along_own_sequences()
 pub fn plans_lead_by_recall()
     ensures { (side : Side) (g : GameView) → IsGame g → HasRecall g side → (plan : List (Option ℕ)) (n set : ℕ) (seq : List (SetId × ℕ))
         → set_of g side n ≡ Some set → IsOwnAt g side n seq → (leads side g plan set ≡ true) ↔ PlaysMoves plan seq }
+{}
+
+/// A set is below another one exactly where some node of it is below some node of that.
+pub fn sets_below_have_nodes_below()
+    ensures { (side : Side) (g : GameView) → IsGame g → (above set : ℕ) → (is_below side g above set ≡ true) ↔ HasNodeAbove side g above set }
 {}
 
 /// A graft leaves every set as it was that isn't the set of the graft or below it.
