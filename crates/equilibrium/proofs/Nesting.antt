@@ -1,6 +1,7 @@
 -- A reduced plan that leads to a set names one action there. So a deviation at a set that is reached gains what the deviations at its
 -- recommended actions gain together.
-use Rattle.std.proofs.Common.{◌≡◌, ◌≢◌, ℕ, zero, suc, ◌<◌, Bool, true, false, nat_eq, cond, List, [], ◌∷◌, length, Option, Some, None, slice_get, ℤ, pos, ◌+ℤ◌, ◌-ℤ◌, ◌*ℤ◌, ◌≤ℤ◌, refl, sym, ap, ◌∙◌, arith}
+use Rattle.std.proofs.Common.{◌≡◌, ◌≢◌, ℕ, zero, suc, ◌<◌, Bool, true, false, nat_eq, cond, List, [], ◌∷◌, length, Option, Some}
+use Rattle.std.proofs.Common.{None, slice_get, ℤ, pos, ◌+ℤ◌, ◌-ℤ◌, ◌*ℤ◌, ◌≤ℤ◌, refl, sym, ap, ◌∙◌, arith}
 use Rattle.std.proofs.lemmas.Int.{ints}
 use Rattle.std.proofs.lemmas.Bool.Decides.{nat_tests}
 use Rattle.exact_algebra.specs.Sums.{sum_to}
@@ -43,7 +44,8 @@ nothing_left : (a : ℤ) → a -ℤ a ≡ pos 0
 nothing_left a = omega (arith, ints)
 
 -- of a set's actions the plan names one, so the deviations told the others aren't met
-told_once : (f : Plan → ℤ) (plan new : Plan) (n named : ℕ) → named < n → sum_to n (λ a. f (cond (nat_eq named a) new plan) -ℤ f plan) ≡ f new -ℤ f plan
+told_once : (f : Plan → ℤ) (plan new : Plan) (n named : ℕ) → named < n
+    → sum_to n (λ a. f (cond (nat_eq named a) new plan) -ℤ f plan) ≡ f new -ℤ f plan
 told_once f plan new n named inside =
     let term = λ (a : ℕ). f (cond (nat_eq named a) new plan) -ℤ f plan in
     let here : term named ≡ f new -ℤ f plan = ap (λ (b : Bool). f (cond b new plan) -ℤ f plan) (same_number named) in
@@ -57,9 +59,11 @@ info_at (info ∷ sets) zero h = (info, refl)
 info_at (info ∷ sets) (suc k) h = info_at sets k (omega arith)
 
 -- what a number of plans gains by a deviation at a set is what it gains at the set's actions together
-plan_split : (f : Plan → ℤ) (side : Side) (g : GameView) (set : SetId) (info : SetInfo) (choice : List ℕ) (plan : Plan) → IsReduced side g plan
+plan_split : (f : Plan → ℤ) (side : Side) (g : GameView) (set : SetId) (info : SetInfo) (choice : List ℕ) (plan : Plan)
+    → IsReduced side g plan
     → slice_get (sets_of side g) set.0 ≡ Some info → set.0 < length (sets_of side g) → (led : Bool) → leads side g plan set.0 ≡ led
-    → f (deviated side g (Reached set) choice plan) -ℤ f plan ≡ sum_to info.actions (λ a. f (deviated side g (Told set a) choice plan) -ℤ f plan)
+    → f (deviated side g (Reached set) choice plan) -ℤ f plan ≡ sum_to info.actions
+    (λ a. f (deviated side g (Told set a) choice plan) -ℤ f plan)
 plan_split f side g set info choice plan reduced there low false e =
     let nothing = nothing_left (f plan) in
     rw e (nothing ∙ sym (sum_to-nothing info.actions _ (λ a h. nothing)))
@@ -70,9 +74,12 @@ plan_split f side g set info choice plan reduced there low true e =
 
 entry_split : (side : Side) (g : GameView) (set : SetId) (info : SetInfo) (choice : List ℕ) (entry : Entry) → IsEntry g entry
     → slice_get (sets_of side g) set.0 ≡ Some info → set.0 < length (sets_of side g)
-    → deviated_pay side g (Reached set) choice entry -ℤ pay side g entry ≡ sum_to info.actions (λ a. deviated_pay side g (Told set a) choice entry -ℤ pay side g entry)
-entry_split One g set info choice entry is there low = plan_split (λ plan. walk One g plan entry.two 0) One g set info choice entry.one is.one there low _ refl
-entry_split Two g set info choice entry is there low = plan_split (λ plan. walk Two g entry.one plan 0) Two g set info choice entry.two is.two there low _ refl
+    → deviated_pay side g (Reached set) choice entry -ℤ pay side g entry ≡ sum_to info.actions
+    (λ a. deviated_pay side g (Told set a) choice entry -ℤ pay side g entry)
+entry_split One g set info choice entry is there low = plan_split
+    (λ plan. walk One g plan entry.two 0) One g set info choice entry.one is.one there low _ refl
+entry_split Two g set info choice entry is there low = plan_split
+    (λ plan. walk Two g entry.one plan 0) Two g set info choice entry.two is.two there low _ refl
 
 -- without a slack to gain no more is not to get more
 pub no_more : (l f s t : ℤ) → (pos 1 *ℤ l) ≤ℤ (pos 1 *ℤ f +ℤ pos 0 *ℤ s *ℤ t) → l ≤ℤ f
@@ -90,7 +97,8 @@ no_gain_together l f s z split most none = omega (arith, ints)
 abbrev no_slack : Slack
 no_slack = record { num = 0; den = 1 }
 
-reached_none : (side : Side) (g : GameView) (list : List Entry) → IsEquilibriumList Efce g no_slack list → (trigger : Trigger) (choice : List ℕ)
+reached_none : (side : Side) (g : GameView) (list : List Entry) → IsEquilibriumList Efce g no_slack list
+    → (trigger : Trigger) (choice : List ℕ)
     → IsTriggerOf Efcce g side trigger → IsFullChoice side g choice → GainsNoMore side g no_slack list trigger choice
 reached_none side g list eq (Told set action) choice is full = absurd is
 reached_none side g list eq Start choice is full = absurd is
@@ -98,9 +106,11 @@ reached_none side g list eq (Reached set) choice is full =
     let info = info_at (sets_of side g) set.0 is in
     let f = following side g list in
     let split = gains_split info.0.actions (λ (e : Entry). pos e.weight) (pay side g) (deviated_pay side g (Reached set) choice)
-    (λ (a : ℕ). deviated_pay side g (Told set a) choice) list (λ k d h. entry_split side g set info.0 choice _ (eq.entries k d h) info.1 is) in
+    (λ (a : ℕ). deviated_pay side g (Told set a) choice) list
+    (λ k d h. entry_split side g set info.0 choice _ (eq.entries k d h) info.1 is) in
     let each : (a : ℕ) → a < info.0.actions → (leaving side g (Told set a) choice list -ℤ f) ≤ℤ pos 0 =
-    λ a h. no_gain _ f (no_more (leaving side g (Told set a) choice list) f (scale_of side g) (total list) (eq.none_improves side (Told set a) choice (info.0, info.1, h) full)) in
+    λ a h. no_gain _ f (no_more (leaving side g (Told set a) choice list) f (scale_of side g) (total list)
+    (eq.none_improves side (Told set a) choice (info.0, info.1, h) full)) in
     let most = sum_to_at_most info.0.actions (λ (a : ℕ). leaving side g (Told set a) choice list -ℤ f) (λ a. pos 0) each in
     let none = sum_to-nothing info.0.actions (λ a. pos 0) (λ a h. refl) in
     no_more_back (leaving side g (Reached set) choice list) f (scale_of side g) (total list) (no_gain_together _ f _ _ split most none)

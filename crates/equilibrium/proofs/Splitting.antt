@@ -8,8 +8,10 @@ use Rattle.exact_algebra.proofs.Sums.{sum_to-add, sum_to-nothing, sum_to-same, s
 gathered : (w t s p r : ℤ) → w *ℤ t +ℤ s -ℤ (w *ℤ p +ℤ r) ≡ w *ℤ (t -ℤ p) +ℤ (s -ℤ r)
 gathered w t s p r = simp ring_laws (omega (arith, linear))
 
-pub gains_split : {A : Type 0} (n : ℕ) (w p d : A → ℤ) (t : ℕ → A → ℤ) (xs : List A) → All (λ x. d x -ℤ p x ≡ sum_to n (λ a. t a x -ℤ p x)) xs
-    → sum_over (λ x. w x *ℤ d x) xs -ℤ sum_over (λ x. w x *ℤ p x) xs ≡ sum_to n (λ a. sum_over (λ x. w x *ℤ t a x) xs -ℤ sum_over (λ x. w x *ℤ p x) xs)
+pub gains_split : {A : Type 0} (n : ℕ) (w p d : A → ℤ) (t : ℕ → A → ℤ) (xs : List A)
+    → All (λ x. d x -ℤ p x ≡ sum_to n (λ a. t a x -ℤ p x)) xs
+    → sum_over (λ x. w x *ℤ d x) xs -ℤ sum_over (λ x. w x *ℤ p x) xs ≡ sum_to n
+    (λ a. sum_over (λ x. w x *ℤ t a x) xs -ℤ sum_over (λ x. w x *ℤ p x) xs)
 unfolding sum_over
 gains_split n w p d t [] each = sym (sum_to-nothing n _ (λ k h. refl))
 gains_split {A} n w p d t (x ∷ xs) each =

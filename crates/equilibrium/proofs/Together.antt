@@ -17,7 +17,8 @@ both_gain d n s l m f h t u first second =
     let two = simp ring_laws at second in
     simp ring_laws (omega (arith, linear))
 
-pub lists_append : (notion : Notion) (g : GameView) (slack : Slack) (xs ys : List Entry) → IsEquilibriumList notion g slack xs → IsEquilibriumList notion g slack ys
+pub lists_append : (notion : Notion) (g : GameView) (slack : Slack) (xs ys : List Entry) → IsEquilibriumList notion g slack xs
+    → IsEquilibriumList notion g slack ys
     → IsEquilibriumList notion g slack (xs ++ ys)
 lists_append notion g slack xs ys a b = record {
   entries = All-append (IsEntry g) xs ys a.entries b.entries;
@@ -30,6 +31,7 @@ lists_append notion g slack xs ys a b = record {
         sum_over-append (λ (e : Entry). pos e.weight *ℤ pay side g e) xs ys,
         sum_over-append (λ (e : Entry). pos e.weight) xs ys,
       )
-      (both_gain (pos slack.den) (pos slack.num) (scale_of side g) (leaving side g trigger choice xs) (leaving side g trigger choice ys) (following side g xs) (following side g ys)
+      (both_gain (pos slack.den) (pos slack.num) (scale_of side g) (leaving side g trigger choice xs)
+      (leaving side g trigger choice ys) (following side g xs) (following side g ys)
       (total xs) (total ys) (a.none_improves side trigger choice is full) (b.none_improves side trigger choice is full));
 }

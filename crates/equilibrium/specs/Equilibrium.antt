@@ -17,12 +17,14 @@ pub record Slack : Type 0 where
 -- leaving at a trigger for a full choice gains at most the slack: both sides times its denominator, the player's scale and the total
 abbrev pub GainsNoMore : Side → GameView → Slack → List Entry → Trigger → List ℕ → Type 0
 GainsNoMore side g slack list trigger choice =
-    (pos slack.den *ℤ leaving side g trigger choice list) ≤ℤ (pos slack.den *ℤ following side g list +ℤ pos slack.num *ℤ scale_of side g *ℤ total list)
+    (pos slack.den *ℤ leaving side g trigger choice list) ≤ℤ
+    (pos slack.den *ℤ following side g list +ℤ pos slack.num *ℤ scale_of side g *ℤ total list)
 
 -- no trigger of a player improves
 abbrev pub NoneImproves : Notion → Side → GameView → Slack → List Entry → Type 0
 NoneImproves notion side g slack list =
-    (trigger : Trigger) (choice : List ℕ) → IsTriggerOf notion g side trigger → IsFullChoice side g choice → GainsNoMore side g slack list trigger choice
+    (trigger : Trigger) (choice : List ℕ) → IsTriggerOf notion g side trigger → IsFullChoice side g choice
+    → GainsNoMore side g slack list trigger choice
 
 -- entries with a total above 0, of which no trigger of either player improves
 pub record IsEquilibriumList (notion : Notion) (g : GameView) (slack : Slack) (list : List Entry) : Type 0 where

@@ -8,12 +8,14 @@ use Rattle.equilibrium.specs.Reach.{is_below}
 -- an action at each set of a player
 pub record IsFullChoice (side : Side) (g : GameView) (choice : List ℕ) : Type 0 where
   pub per_set : length choice ≡ length (sets_of side g)
-  pub in_range : (set action : ℕ) (info : SetInfo) → slice_get choice set ≡ Some action → slice_get (sets_of side g) set ≡ Some info → action < info.actions
+  pub in_range : (set action : ℕ) (info : SetInfo) → slice_get choice set ≡ Some action
+      → slice_get (sets_of side g) set ≡ Some info → action < info.actions
 
 -- a plan's entries, from set `first` on, with those of a full choice where a player chooses anew
 abbrev pub chosen_anew : (ℕ → Bool) → List ℕ → ℕ → List (Option ℕ) → List (Option ℕ)
 chosen_anew anew choice first [] = []
-chosen_anew anew choice first (entry ∷ rest) = cond (anew first) (Some (slice_index choice first)) entry ∷ chosen_anew anew choice (first + 1) rest
+chosen_anew anew choice first (entry ∷ rest) =
+    cond (anew first) (Some (slice_index choice first)) entry ∷ chosen_anew anew choice (first + 1) rest
 
 -- a set is this one or below it
 abbrev pub is_under : Side → GameView → ℕ → ℕ → Bool

@@ -45,7 +45,8 @@ leads side g plan set = comes_to (allows side plan) side g set 0
 abbrev pub has_below : Side → GameView → ℕ → ℕ → List Node → Bool
 has_below side g above set [] = false
 has_below side g above set (node ∷ nodes) =
-    is_set above (set_at side node) && some_kid (λ action. true) (comes_to (λ at action. true) side g set) 0 (kids_of node) || has_below side g above set nodes
+    is_set above (set_at side node) && some_kid (λ action. true) (comes_to (λ at action. true) side g set) 0 (kids_of node)
+    || has_below side g above set nodes
 
 -- whether a set is below another one of its player: some node of it is below some node of that
 abbrev pub is_below : Side → GameView → ℕ → ℕ → Bool

@@ -17,7 +17,8 @@ ghost use Rattle.tree_recall.specs.Tree.{set_of};
 
 /// A plan leads to a set exactly where it plays the own sequence of some node of the set.
 pub fn plans_lead_along_own_sequences()
-    ensures { (side : Side) (g : GameView) → IsGame g → (plan : List (Option ℕ)) (set : ℕ) → (leads side g plan set ≡ true) ↔ PlaysOwn side g plan set }
+    ensures { (side : Side) (g : GameView) → IsGame g → (plan : List (Option ℕ)) (set : ℕ)
+        → (leads side g plan set ≡ true) ↔ PlaysOwn side g plan set }
 {}
 
 /// With perfect recall that is the own sequence of whichever node of the set.
@@ -28,7 +29,8 @@ pub fn plans_lead_by_recall()
 
 /// A set is below another one exactly where some node of it is below some node of that.
 pub fn sets_below_have_nodes_below()
-    ensures { (side : Side) (g : GameView) → IsGame g → (above set : ℕ) → (is_below side g above set ≡ true) ↔ HasNodeAbove side g above set }
+    ensures { (side : Side) (g : GameView) → IsGame g → (above set : ℕ)
+        → (is_below side g above set ≡ true) ↔ HasNodeAbove side g above set }
 {}
 
 /// A graft leaves every set as it was that isn't the set of the graft or below it.
@@ -40,7 +42,8 @@ pub fn grafts_leave_other_sets()
 /// A graft has the full choice at its set and below.
 pub fn grafts_choose_below()
     ensures { (side : Side) (g : GameView) (above : ℕ) (choice : List ℕ) (plan : List (Option ℕ)) (set : ℕ)
-        → set < length plan → is_under side g above set ≡ true → slice_get (graft side g above choice plan) set ≡ Some (Some (slice_index choice set)) }
+        → set < length plan → is_under side g above set ≡ true
+        → slice_get (graft side g above choice plan) set ≡ Some (Some (slice_index choice set)) }
 {}
 
 /// An extensive-form correlated equilibrium is a coarse one.

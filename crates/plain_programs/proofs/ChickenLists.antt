@@ -1,4 +1,5 @@
--- Both sums are computed from the definitions: following pays player 1 20, and daring instead 21, whether told to chicken out, at the set, or
+-- Both sums are computed from the definitions: following pays player 1 20, and daring instead 21, whether told to chicken
+-- out, at the set, or
 -- from the start.
 use Rattle.std.proofs.Common.{◌≡◌, ℕ, zero, suc, ◌<◌, [], ◌∷◌, Some, slice_get, ℤ, pos, ◌+ℤ◌, ◌*ℤ◌, ◌≤ℤ◌, refl, arith}
 use Rattle.std.proofs.lemmas.Int.{ints}
@@ -47,7 +48,8 @@ daring : IsFullChoice One chicken_game (0 ∷ [])
 unfolding chicken_game
 daring = record { per_set = refl; in_range = in_range }
   where
-    in_range : (set action : ℕ) (info : SetInfo) → slice_get (0 ∷ []) set ≡ Some action → slice_get ((record { file = 1; actions = 2 }) ∷ []) set ≡ Some info → action < info.actions
+    in_range : (set action : ℕ) (info : SetInfo) → slice_get (0 ∷ []) set ≡ Some action
+        → slice_get ((record { file = 1; actions = 2 }) ∷ []) set ≡ Some info → action < info.actions
     in_range zero action info e f =
         let first : 0 ≡ action = cc in
         let two : record { file = 1; actions = 2 } ≡ info = cc in
@@ -60,11 +62,14 @@ more_is_less l f s t e k h = let low = no_more l f s t h in omega (arith, ints)
 pub not_one_chickens_out : (notion : Notion) → IsEquilibriumList notion chicken_game no_slack one_chickens_out → ⊥
 unfolding chicken_game
 not_one_chickens_out Efce eq =
-    more_is_less (leaving One chicken_game (Told first_set 1) (0 ∷ []) one_chickens_out) (following One chicken_game one_chickens_out) (scale_of One chicken_game) (total one_chickens_out)
+    more_is_less (leaving One chicken_game (Told first_set 1) (0 ∷ []) one_chickens_out)
+    (following One chicken_game one_chickens_out) (scale_of One chicken_game) (total one_chickens_out)
     told_21 follows_20 (eq.none_improves One (Told first_set 1) (0 ∷ []) (record { file = 1; actions = 2 }, refl, omega arith) daring)
 not_one_chickens_out Efcce eq =
-    more_is_less (leaving One chicken_game (Reached first_set) (0 ∷ []) one_chickens_out) (following One chicken_game one_chickens_out) (scale_of One chicken_game) (total one_chickens_out)
+    more_is_less (leaving One chicken_game (Reached first_set) (0 ∷ []) one_chickens_out)
+    (following One chicken_game one_chickens_out) (scale_of One chicken_game) (total one_chickens_out)
     reached_21 follows_20 (eq.none_improves One (Reached first_set) (0 ∷ []) (omega arith) daring)
 not_one_chickens_out Nfcce eq =
-    more_is_less (leaving One chicken_game Start (0 ∷ []) one_chickens_out) (following One chicken_game one_chickens_out) (scale_of One chicken_game) (total one_chickens_out)
+    more_is_less (leaving One chicken_game Start (0 ∷ []) one_chickens_out) (following One chicken_game one_chickens_out)
+    (scale_of One chicken_game) (total one_chickens_out)
     start_21 follows_20 (eq.none_improves One Start (0 ∷ []) tt daring)

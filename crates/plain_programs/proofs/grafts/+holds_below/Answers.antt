@@ -6,7 +6,8 @@ use Rattle.corr_game.specs.Node.{kids_of}
 use Rattle.equilibrium.specs.Reach.{comes_to, some_kid}
 use Rattle.plain_programs.proofs.Leading.{comes_or_kids, kid_found, kid_inside, kid_passed}
 use Rattle.plain_programs.proofs.grafts.+holds_below.Goals as goal
-use Rattle.plain_programs.proofs.grafts.+holds_below.Goals.{then-is_of_set-via-then-is_of_set, then-is_of_set-via-else-is_of_set+then-holds_below}
+use Rattle.plain_programs.proofs.grafts.+holds_below.Goals.{then-is_of_set-via-then-is_of_set}
+use Rattle.plain_programs.proofs.grafts.+holds_below.Goals.{then-is_of_set-via-else-is_of_set+then-holds_below}
 
 same_node : (x y : Node) → Some x ≡ Some y → x ≡ y
 same_node x y e = cc
@@ -31,7 +32,8 @@ returns-then-is_of_set t c = λ node there.
     let kid = comes_or_kids (λ at action. true) c.args.side c.args.game.now c.node.ensures.rules c.args.set.0 c.at-kid.result.now _ c.node-in-loop-k.ensures.item in
     let here : comes c.at-kid.result.now ≡ true = kid ∙ elim c.then-is_of_set.branch [
       | then-is_of_set-via-then-is_of_set w ↦ or_left _ _ (sym c.is_of_set.ensures ∙ w.if-is_of_set.true)
-      | then-is_of_set-via-else-is_of_set+then-holds_below w ↦ or_right _ _ (sym (w.holds_below.ensures _ c.node-in-loop-k.ensures.item) ∙ w.if-holds_below.true)
+      | then-is_of_set-via-else-is_of_set+then-holds_below w ↦ or_right _ _
+          (sym (w.holds_below.ensures _ c.node-in-loop-k.ensures.item) ∙ w.if-holds_below.true)
     ] in
     kid_found (λ action. true) comes c.in-Some.kids.now c.loop-k.k (omega arith) c.loop-k.invariant refl (rw c.at-kid.ensures.item at here)
     ∙ ap (some_kid (λ action. true) comes 0) (c.in-Some.ensures.some ∙ ap kids_of same)

@@ -12,7 +12,8 @@ loop-set-preserved c =
     elim c.if-is_under.branch [
       | then-is_under+in_ok-push w ↦
           rw (w.entries-is, w.in_ok-push.ensures.items)
-          (entry_chosen anew c.args.choice.now c.loop-set.set c.args.plan.now c.loop-set.entries.items w.at.result.now whole (omega arith) c.loop-set.invariant
+          (entry_chosen anew c.args.choice.now c.loop-set.set c.args.plan.now c.loop-set.entries.items w.at.result.now whole
+          (omega arith) c.loop-set.invariant
           (sym c.is_under.ensures ∙ w.if-is_under.true) w.at.ensures.item)
       | else-is_under+in_ok-push-2 w ↦
           rw (w.entries-is, w.in_ok-push-2.ensures.items)

@@ -20,7 +20,8 @@ pub allows-requires : goal.allows-requires
 allows-requires t c =
     record {
       covered = λ set e. rw c.requires.per_set
-          (set_inside c.args.side c.args.game.now c.args.n _ (c.node-node.ensures.rules.each_node c.args.n _ c.node-node.ensures.item) set e);
+          (set_inside c.args.side c.args.game.now c.args.n _
+          (c.node-node.ensures.rules.each_node c.args.n _ c.node-node.ensures.item) set e);
     }
 
 pub leads_from-requires : goal.leads_from-requires
@@ -43,8 +44,10 @@ loop-k-preserved t c =
     let comes = comes_to (allows c.args.side c.args.plan.now) c.args.side c.args.game.now c.args.set.0 in
     kid_passed allowed comes c.in-Some.kids.now c.loop-k.k (omega arith) c.loop-k.invariant
     (elim c.else-allows.branch [
-      | else-allows-via-then-allows+else-leads_from w ↦ and_right (allowed c.loop-k.k) (comes (get_or c.in-Some.kids.now c.loop-k.k 0)) (rw w.at.ensures.item at (sym w.leads_from.ensures ∙ w.if-leads_from.false))
-      | else-allows-via-else-allows w ↦ and_left (allowed c.loop-k.k) (comes (get_or c.in-Some.kids.now c.loop-k.k 0)) (sym c.allows.ensures ∙ w.if-allows.false)
+      | else-allows-via-then-allows+else-leads_from w ↦ and_right (allowed c.loop-k.k)
+          (comes (get_or c.in-Some.kids.now c.loop-k.k 0)) (rw w.at.ensures.item at (sym w.leads_from.ensures ∙ w.if-leads_from.false))
+      | else-allows-via-else-allows w ↦ and_left (allowed c.loop-k.k) (comes (get_or c.in-Some.kids.now c.loop-k.k 0))
+          (sym c.allows.ensures ∙ w.if-allows.false)
     ])
 
 pub returns : goal.returns

@@ -5,4 +5,5 @@ use Rattle.lp_form.specs.Program.{coefficient, right_of}
 use Rattle.plain_programs.proofs.solutions.meets_rows.Given as goal
 
 abbrev pub invariant-loop-row : goal.invariant-loop-row
-invariant-loop-row l = (row : ℕ) → row < l.row → sum_to l.lp.cols (λ col. coefficient l.lp row col *ℤ slice_index_or l.numbers col (pos 0)) ≡ l.total *ℤ right_of l.lp row
+invariant-loop-row l = (row : ℕ) → row < l.row → sum_to l.lp.cols
+    (λ col. coefficient l.lp row col *ℤ slice_index_or l.numbers col (pos 0)) ≡ l.total *ℤ right_of l.lp row

@@ -10,7 +10,8 @@ pub sum-total-requires-clause-left : goal.sum-total-requires-clause-left
 sum-total-requires-clause-left c = omega (arith, c.loop-col.invariant.bound)
 
 pub loop-col-preserved : goal.loop-col-preserved
-loop-col-preserved c = one_more _ _ c.loop-col.col _ c.term.result c.sum-total.result (omega arith) c.loop-col.invariant c.term.ensures.bound c.term.ensures.value c.sum-total.ensures
+loop-col-preserved c = one_more _ _ c.loop-col.col _ c.term.result c.sum-total.result
+    (omega arith) c.loop-col.invariant c.term.ensures.bound c.term.ensures.value c.sum-total.ensures
 
 pub returns : goal.returns
 returns c = all_terms _ c.loop-col.invariant (omega arith)

@@ -13,4 +13,8 @@ returns-clause-bound c =
     let number = slice_index_or c.args.numbers.now c.args.col (pos 0) in
     let value : to_z w128 (of_z w128 c.product.result) ≡ factor *ℤ number = search rules in
     let narrow : Narrow number = All-get_or Narrow c.args.numbers.now c.args.col (pos 0) (omega arith) c.requires.narrow in
-    rw value (omega (arith, product_magnitude factor number (2 ^ 51) (2 ^ 62) (omega (arith, c.requires.small.coefficients c.args.row c.args.col)) (omega arith)))
+    rw value (omega (
+      arith,
+      product_magnitude factor number (2 ^ 51) (2 ^ 62)
+          (omega (arith, c.requires.small.coefficients c.args.row c.args.col)) (omega arith),
+    ))
