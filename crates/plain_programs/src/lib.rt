@@ -17,3 +17,6 @@ pub use grafts::{graft, is_below};
 pub use plans::{is_reduced, leads};
 pub use samples::a_list_of_chicken_that_is_none;
 pub use solutions::is_solution;
+
+#[cfg(test)]
+mod spreads;
