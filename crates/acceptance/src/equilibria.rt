@@ -150,7 +150,7 @@ fn cooperation_is_no_equilibrium(rt: HostRuntime) -> Result<(), Fail> {
 }
 
 /// The weight with which both players take these actions at their first sets.
-pub fn weight_of(rt: &impl Abort, pairs: &PairList, one: usize, two: usize) -> i128 {
+fn weight_of(rt: &impl Abort, pairs: &PairList, one: usize, two: usize) -> i128 {
     let mut sum = 0;
     for k in 0..pairs.len() {
         let pair = pairs.at(k);

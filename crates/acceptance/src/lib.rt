@@ -6,7 +6,6 @@
 //! - `reports`, `notions`, `refusals`, `limits`, `cuts` and `families` compare what is printed
 //! - `equilibria` counts out, over all plans and all deviations, that each distribution that is found is an equilibrium
 //! - `certificates` multiplies out that each side's multipliers bound each column of the program
-//! - `spread` hands published values of the pairs of sequences to the decomposition into plans
 //! - `belts` goes round the sides: with the two before, a polygon is neither too small nor too large
 #![tactic(auto)]
 
@@ -42,5 +41,3 @@ mod refusals;
 mod reports;
 #[cfg(test)]
 mod runs;
-#[cfg(test)]
-mod spread;
