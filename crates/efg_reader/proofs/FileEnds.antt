@@ -1,15 +1,13 @@
 -- The tokens of a file lead the machine to a state in which a file may end: part by part, from the last line to the first.
 use Rattle.std.proofs.Common.{◌≡◌, ℕ, Bool, true, false, cond, List, [], ◌∷◌, ◌++◌, Option, Some, None, refl, ap, ◌∙◌}
-use Rattle.std.specs.Prelude.{codes}
 use Rattle.efg_token.specs.Lexeme.{Lexeme, text, brace_left, brace_right, comma, word}
 use Rattle.efg_reader.specs.declared.state.Mover.{Mover}
 use Rattle.efg_reader.specs.declared.state.Mover.TheVariants as mover
-use Rattle.efg_reader.specs.declared.state.Letter.TheVariants as letter
 use Rattle.efg_reader.specs.declared.state.State.{State}
 use Rattle.efg_reader.specs.declared.state.State.TheVariants as state
 use Rattle.efg_reader.specs.Grammar.{Whole, Number, Payoff, Payoffs, Outcome, Set, Node, chance, personal, terminal, File, each, or_none, named, draw, payoff, payoffs, outcome, set, node, file}
-use Rattle.efg_reader.specs.Machine.{after, led, is_end, accepts, behind_whole, behind_number}
-use Rattle.efg_reader.proofs.FileLeft.{Act, act, acts, behind_brace}
+use Rattle.efg_reader.specs.Machine.{led, is_end, accepts, behind_whole, behind_number}
+use Rattle.efg_reader.proofs.FileLeft.{Act, act, acts}
 
 -- these tokens lead from the state to one in which a file may end
 abbrev pub Ends : State → List Lexeme → Type 0

@@ -1,10 +1,9 @@
 -- What is left of a file in each state of the machine: its parts, the tokens of these, and what is kept of the whole file
 -- once they have been read as well. Parts that have been read already aren't looked at.
-use Rattle.std.proofs.Common.{◌≡◌, ℕ, ◌+◌, List, [], ◌∷◌, ◌++◌, length, map, Option, Some, None}
+use Rattle.std.proofs.Common.{ℕ, ◌+◌, List, [], ◌∷◌, ◌++◌, length, map, Option, Some, None}
 use Rattle.std.specs.Prelude.{codes, option_map}
-use Rattle.efg_token.specs.Lexeme.{Lexeme, text, brace_left, brace_right, comma, word}
+use Rattle.efg_token.specs.Lexeme.{Lexeme, text, brace_left, brace_right, word}
 use Rattle.efg_reader.specs.declared.node_line.ActLine.{ActLine}
-use Rattle.efg_reader.specs.declared.node_line.NodeLine.{NodeLine}
 use Rattle.efg_reader.specs.declared.state.Letter.TheVariants as letter
 use Rattle.efg_reader.specs.declared.state.Mover.{Mover}
 use Rattle.efg_reader.specs.declared.state.Mover.TheVariants as mover

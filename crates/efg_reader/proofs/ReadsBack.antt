@@ -1,9 +1,7 @@
 -- What has been read, from token to token, and what it makes with what is left.
-use Rattle.std.proofs.Common.{◌≡◌, ℕ, ◌+◌, ◌≤◌, Bool, true, false, cond, List, [], ◌∷◌, ◌++◌, length, map, Option, Some, None, refl, ap, sym, subst, ◌∙◌, arith, append-nil}
+use Rattle.std.proofs.Common.{◌≡◌, ℕ, ◌+◌, ◌≤◌, Bool, true, false, cond, List, [], ◌∷◌, ◌++◌, map, Option, Some, None, refl, ap, sym, subst, ◌∙◌, arith, append-nil}
 use Rattle.efg_token.specs.Lexeme.{Lexeme}
 use Rattle.efg_reader.specs.declared.state.Letter.TheVariants as letter
-use Rattle.efg_reader.specs.declared.state.Mover.{Mover}
-use Rattle.efg_reader.specs.declared.state.Mover.TheVariants as mover
 use Rattle.efg_reader.specs.declared.state.State.{State}
 use Rattle.efg_reader.specs.declared.state.State.TheVariants as state
 use Rattle.efg_reader.specs.Draft.{Progress, start, stepped, finished}

@@ -1,6 +1,6 @@
 -- One token back: what is left of a file behind a token makes, with that token, what was left before it.
-use Rattle.std.proofs.Common.{◌≡◌, ℕ, ◌+◌, Bool, true, false, List, [], ◌∷◌, ◌++◌, length, map, Option, Some, None, refl, ap, sym, ◌∙◌, arith, append_assoc, append-nil}
-use Rattle.std.specs.Prelude.{codes, option_map}
+use Rattle.std.proofs.Common.{◌≡◌, ℕ, ◌+◌, true, false, List, [], ◌∷◌, ◌++◌, map, Option, Some, None, refl, ap, sym, ◌∙◌, arith, append_assoc, append-nil}
+use Rattle.std.specs.Prelude.{codes}
 use Rattle.efg_token.specs.Lexeme.{Lexeme, text, brace_left, brace_right, comma, word}
 use Rattle.efg_reader.specs.declared.node_line.ActLine.{ActLine}
 use Rattle.efg_reader.specs.declared.node_line.NodeLine.{NodeLine}
@@ -10,13 +10,13 @@ use Rattle.efg_reader.specs.declared.state.Mover.{Mover}
 use Rattle.efg_reader.specs.declared.state.Mover.TheVariants as mover
 use Rattle.efg_reader.specs.declared.state.State.{State}
 use Rattle.efg_reader.specs.declared.state.State.TheVariants as state
-use Rattle.efg_reader.specs.Draft.{DraftView, Progress, begun, line_of, stepped}
+use Rattle.efg_reader.specs.Draft.{Progress, begun, line_of, stepped}
 use Rattle.efg_reader.specs.File.{FileView}
 use Rattle.efg_reader.specs.FileTokens.{draw_kept, action_kept, node_kept}
 use Rattle.efg_reader.specs.Grammar.{Whole, Outcome, Set, Node, chance, personal, terminal, File, each, node}
 use Rattle.efg_reader.specs.Machine.{after, in_list, behind_action, behind_comment, behind_line, behind_set_name, behind_set, behind_outcome_name, behind_outcome, behind_payoff}
 use Rattle.efg_reader.proofs.ByToken.{moved, by_word, by_text, by_brace, by_whole, by_number, by_list, by_line}
-use Rattle.efg_reader.proofs.FileLeft.{Act, act_kept, Left, left_tokens, left_file, over, longer, with_outcome, with_set, more_acts, more_pays, amounts, lined, ended}
+use Rattle.efg_reader.proofs.FileLeft.{Act, Left, left_tokens, left_file, over, longer, with_outcome, with_set, amounts, lined, ended}
 
 pub record Back (s : State) (token : Lexeme) (next : State) (p : Progress) (l : Left next) : Type 0 where
   pub left : Left s

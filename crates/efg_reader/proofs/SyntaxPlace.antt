@@ -1,5 +1,5 @@
 -- The place at which no file goes on: there is one at most, and none where the tokens of the bytes are a file's.
-use Rattle.std.proofs.Common.{◌≡◌, ℕ, ◌+◌, ◌-◌, ◌≤◌, true, false, List, [], ◌∷◌, ◌++◌, length, drop, Some, None, refl, ap, sym, subst, ◌∙◌, ◌⊎◌, inl, inr, arith, append_assoc, append-nil, length-drop}
+use Rattle.std.proofs.Common.{◌≡◌, ℕ, ◌+◌, ◌-◌, ◌≤◌, true, false, List, [], ◌∷◌, ◌++◌, length, None, refl, ap, sym, subst, ◌∙◌, ◌⊎◌, inl, inr, arith, append_assoc, append-nil, length-drop}
 use Rattle.efg_token.specs.Cursor.{Cursor, left}
 use Rattle.efg_token.specs.Front.{Front, front, found, blank, unended, gap}
 use Rattle.efg_token.specs.Lexeme.{Lexeme}
@@ -30,11 +30,8 @@ pub file_read : (bytes : List ℕ) (tokens : List Lexeme) (rest : List ℕ) (q :
     → raw ≡ finished q.state q → IsFileOf bytes raw
 file_read bytes tokens rest q raw stand reads over whole same =
     let read = reads_file tokens q reads whole in
-    record {
-      parts = read.parts;
-      are_tokens = subst (λ ts. AreTokens bytes ts) read.are_its (stand_whole bytes tokens rest stand over);
-      kept = same ∙ read.its_file;
-    }
+    let its = subst (λ ts. AreTokens bytes ts) read.are_its (stand_whole bytes tokens rest stand over) in
+    record { has_file = record { parts = read.parts; are_tokens = its }; kept = same ∙ read.its_file }
 
 -- where the machine stops, no file goes on
 

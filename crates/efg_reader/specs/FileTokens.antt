@@ -1,5 +1,5 @@
 -- Bytes whose tokens are those of a file, what is kept of it, and the place at which no file goes on.
-use Rattle.std.specs.Prelude.{◌≡◌, ℕ, ◌+◌, ◌-◌, List, [], ◌∷◌, ◌++◌, length, map, Option, Some, None, option_map}
+use Rattle.std.specs.Prelude.{◌≡◌, ℕ, ◌+◌, ◌-◌, List, [], ◌∷◌, ◌++◌, length, map, Some, None, option_map}
 use Rattle.efg_token.specs.Front.{Front, front, found, blank, unended, gap}
 use Rattle.efg_token.specs.Lexeme.{Lexeme}
 use Rattle.efg_token.specs.Tokens.{AreTokens}
@@ -43,16 +43,15 @@ node_kept (terminal name o) = record {
 abbrev pub file_kept : File → FileView
 file_kept f = record { players = length f.players; lines = map node_kept f.nodes }
 
--- the tokens of the bytes are those of a file, of which this is kept
-pub record IsFileOf (bytes : List ℕ) (raw : FileView) : Type 0 where
-  pub parts : File
-  pub are_tokens : AreTokens bytes (file parts)
-  pub kept : raw ≡ file_kept parts
-
 -- the tokens of the bytes are those of a file
 pub record HasFile (bytes : List ℕ) : Type 0 where
   pub parts : File
   pub are_tokens : AreTokens bytes (file parts)
+
+-- the same, and this is kept of the file
+pub record IsFileOf (bytes : List ℕ) (raw : FileView) : Type 0 where
+  pub has_file : HasFile bytes
+  pub kept : raw ≡ file_kept has_file.parts
 
 -- these are the first tokens of the bytes, and the rest is what is behind them
 abbrev pub StandFirst : List ℕ → List Lexeme → List ℕ → Type 0

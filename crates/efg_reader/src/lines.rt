@@ -16,7 +16,7 @@ use std::alloc::{AllocError as NoMemory, Global};
 use std::marker::Model;
 use std::mem;
 
-/// The players' number and the node lines of a file.
+/// The players' number and the node lines of a file, each name, whole and number as its token has it.
 ///
 /// No answer but `Syntax` and `NoMemory` is an error. The place of `Syntax` is the start of the first token with which
 /// no file begins, a text that doesn't end among them; where the bytes only end too early, it is their number.

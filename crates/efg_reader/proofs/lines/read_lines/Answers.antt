@@ -1,5 +1,5 @@
 -- The token is the first of what was left, and the machine goes on with it, or it stops there.
-use Rattle.std.proofs.Common.{◌≡◌, ℕ, ◌+◌, ◌<◌, ◌≤◌, true, false, ◌++◌, ◌∷◌, [], Option, Result, Ok, Err, Some, None, refl, sym, ap, subst, ◌∙◌, arith}
+use Rattle.std.proofs.Common.{◌≡◌, ℕ, ◌+◌, ◌<◌, true, false, ◌++◌, ◌∷◌, [], Option, Result, Ok, Err, Some, None, refl, sym, ap, subst, ◌∙◌, arith}
 use Rattle.std.specs.Prelude.{IsNone, ◌↔◌}
 use Rattle.efg_token.specs.Cursor.{left}
 use Rattle.efg_token.specs.Front.{front, found, blank, unended, gap}
@@ -8,7 +8,7 @@ use Rattle.efg_token.specs.declared.token.Spot.{Spot}
 use Rattle.efg_token.specs.declared.token.TokenFault.{TokenFault}
 use Rattle.efg_token.specs.declared.token.TokenFault.TheVariants.{Unterminated}
 use Rattle.efg_reader.specs.declared.state.State.TheVariants.{Format}
-use Rattle.efg_reader.specs.Draft.{Progress, start, stepped, is_player}
+use Rattle.efg_reader.specs.Draft.{Progress, start, is_player}
 use Rattle.efg_reader.specs.Machine.{after, is_whole}
 use Rattle.efg_reader.specs.Refusal.{place_in}
 use Rattle.efg_reader.proofs.ReadsBack.{Reads, reads-push, players_more}
