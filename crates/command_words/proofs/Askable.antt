@@ -1,5 +1,5 @@
 -- What words mean can be carried out, and is one command: by going over the pairs, and over the table of commands.
-use Rattle.std.proofs.Common.{◌≡◌, ℕ, ◌≤◌, List, [], ◌∷◌, Option, Some, None, ap, arith, refl, subst, sym, ◌∙◌, unwrap_or}
+use Rattle.std.proofs.Common.{◌≡◌, ℕ, ◌≤◌, List, [], ◌∷◌, Option, Some, None, ap, arith, subst, sym, ◌∙◌, unwrap_or}
 use Rattle.corr_game.specs.declared.notions.Notion.{Notion}
 use Rattle.corr_game.specs.declared.notions.Notion.TheVariants.{Efce, Efcce, Nfcce}
 use Rattle.game_gen.specs.declared.kinds.Kind.{Kind}
@@ -10,7 +10,7 @@ use Rattle.command_words.specs.declared.options.Label.{Label}
 use Rattle.command_words.specs.declared.options.Label.TheVariants as label
 use Rattle.command_words.specs.declared.words.Verb.{Verb}
 use Rattle.command_words.specs.declared.words.Verb.TheVariants.{Solve, Check, Gen, Work}
-use Rattle.command_words.specs.Options.{Give, Takes, TakesPair, none_given}
+use Rattle.command_words.specs.Options.{Give, Takes, none_given}
 use Rattle.command_words.specs.Selection.{SelectsSome}
 use Rattle.command_words.specs.Words.{AsksFor, IsAskable, Means, notions_by}
 use Rattle.command_words.proofs.Given.{same_given}

@@ -3,3 +3,7 @@ pub mod Given
 pub mod Meaning
 pub mod Names
 pub mod Pairs
+pub mod Rows
+pub mod Said
+pub mod Shown
+pub mod Walked

@@ -1,3 +1,4 @@
 pub mod Options
 pub mod Selection
+pub mod Table
 pub mod Words

@@ -50,7 +50,7 @@ impl Given {
         if self.kind.is_some() {
             return None;
         }
-        let Some(kind) = kind_of(value) else {
+        let Some(kind) = kind_of(value.as_str()) else {
             return None;
         };
         Some(Given {
@@ -65,14 +65,11 @@ impl Given {
         if self.size.is_some() {
             return None;
         }
-        let Some(number) = number_of(value, 10) else {
+        let Some(size) = size_of(value.as_str()) else {
             return None;
         };
-        if number < 1 || number > 4294967295 {
-            return None;
-        }
         Some(Given {
-            size: Some(number as u32),
+            size: Some(size),
             ..self
         })
     }
@@ -83,7 +80,7 @@ impl Given {
         if self.seed.is_some() {
             return None;
         }
-        let Some(seed) = number_of(value, 20) else {
+        let Some(seed) = number_of(value.as_str(), 20) else {
             return None;
         };
         Some(Given {
@@ -98,7 +95,7 @@ impl Given {
         if self.notion.is_some() {
             return None;
         }
-        let Some(notion) = notion_of(value) else {
+        let Some(notion) = notion_of(value.as_str()) else {
             return None;
         };
         Some(Given {
@@ -122,21 +119,21 @@ impl Given {
     fn with(self, word: &String, value: &String) -> Option<Given>
         ensures { MatchOption result ((after : Given) → TakesPair self (string_bytes word.now) (string_bytes value.now) after → ⊥) (TakesPair self (string_bytes word.now) (string_bytes value.now)) }
     {
-        let Some(label) = label_of(word) else {
+        let Some(label) = label_of(word.as_str()) else {
             return None;
         };
         self.with_labelled(label, value)
     }
 }
 
-pub(crate) fn is_text(word: &String, text: &[u8]) -> bool
-    ensures { IsTrue result ↔ (string_bytes word.now ≡ text.now) }
+pub(crate) fn is_text(word: &str, text: &[u8]) -> bool
+    ensures { IsTrue result ↔ (word.now ≡ text.now) }
 {
     word.as_bytes() == text
 }
 
-fn label_of(word: &String) -> Option<Label>
-    ensures { MatchOption result ((label : Label) → string_bytes word.now ≡ label_word label → ⊥) (λ label. string_bytes word.now ≡ label_word label) }
+fn label_of(word: &str) -> Option<Label>
+    ensures { MatchOption result ((label : Label) → word.now ≡ label_word label → ⊥) (λ label. word.now ≡ label_word label) }
 {
     if is_text(word, b"--kind") {
         return Some(Label::Kind);
@@ -154,8 +151,8 @@ fn label_of(word: &String) -> Option<Label>
 }
 
 /// The kind with this name.
-fn kind_of(name: &String) -> Option<Kind>
-    ensures { MatchOption result ((kind : Kind) → string_bytes name.now ≡ kind_name kind → ⊥) (λ kind. string_bytes name.now ≡ kind_name kind) }
+pub(crate) fn kind_of(name: &str) -> Option<Kind>
+    ensures { MatchOption result ((kind : Kind) → name.now ≡ kind_name kind → ⊥) (λ kind. name.now ≡ kind_name kind) }
 {
     if is_text(name, b"public") {
         return Some(Kind::Public);
@@ -170,8 +167,8 @@ fn kind_of(name: &String) -> Option<Kind>
 }
 
 /// The notion with this name.
-fn notion_of(name: &String) -> Option<Notion>
-    ensures { MatchOption result ((notion : Notion) → string_bytes name.now ≡ notion_word notion → ⊥) (λ notion. string_bytes name.now ≡ notion_word notion) }
+pub(crate) fn notion_of(name: &str) -> Option<Notion>
+    ensures { MatchOption result ((notion : Notion) → name.now ≡ notion_word notion → ⊥) (λ notion. name.now ≡ notion_word notion) }
 {
     if is_text(name, b"efce") {
         return Some(Notion::Efce);
@@ -186,8 +183,8 @@ fn notion_of(name: &String) -> Option<Notion>
 }
 
 /// The number that 1 to so many decimal digits say. A plus, which `parse` would take, is no digit.
-fn number_of(text: &String, most: usize) -> Option<u64>
-    ensures { MatchOption result ((n : ℕ) → n < 2 ^ 64 → IsNumber most (string_bytes text.now) n → ⊥) (IsNumber most (string_bytes text.now)) }
+pub(crate) fn number_of(text: &str, most: usize) -> Option<u64>
+    ensures { MatchOption result ((n : ℕ) → n < 2 ^ 64 → IsNumber most text.now n → ⊥) (IsNumber most text.now) }
 {
     let bytes = text.as_bytes();
     if bytes.is_empty() || bytes.len() > most {
@@ -196,10 +193,23 @@ fn number_of(text: &String, most: usize) -> Option<u64>
     if bytes[0] == b'+' {
         return None;
     }
-    match text.as_str().parse::<u64>() {
+    match text.parse::<u64>() {
         Ok(number) => Some(number),
         Err(_) => None,
     }
+}
+
+/// The size that 1 to 10 digits say, from 1 to 2^32 - 1.
+pub(crate) fn size_of(text: &str) -> Option<u32>
+    ensures { MatchOption result ((n : ℕ) → IsNumber 10 text.now n → 1 ≤ n → n < 2 ^ 32 → ⊥) (λ n. IsNumber 10 text.now n × (1 ≤ n) × (n < 2 ^ 32)) }
+{
+    let Some(number) = number_of(text, 10) else {
+        return None;
+    };
+    if number < 1 || number > 4294967295 {
+        return None;
+    }
+    Some(number as u32)
 }
 
 /// What the words behind the first give, or none where they aren't pairs of an option and its value.

@@ -11,7 +11,7 @@ fn meaning(alloc: Global, texts: &[&str]) -> Result<Option<Command>, Fail> {
     for text in texts {
         words.push(String::from_str(alloc, text)?)?;
     }
-    Ok(read_words(&words))
+    Ok(read_words(alloc, &words)?)
 }
 
 fn expect_none(rt: &impl Abort, alloc: Global, texts: &[&str]) -> Result<(), Fail> {

@@ -1,11 +1,13 @@
 // The words that mean a command: a word for what is to be done, then the options that it needs or may have.
-ghost use Rattle.std.specs.Prelude.{◌≡◌, map, MatchOption, string_bytes};
+ghost use Rattle.std.specs.Prelude.{◌≡◌, IfOk, map, MatchOption, string_bytes};
 ghost use Rattle.command_words.specs.declared.commands.Command.{Command};
 ghost use Rattle.command_words.specs.declared.words.Verb.{Verb};
 ghost use Rattle.command_words.specs.Words.{AsksFor, Means, MeansNothing, notions_by, verb_word};
 
 use crate::commands::{Command, Notions};
 use crate::options::{Given, is_text, read_options};
+use crate::values::given_by;
+use std::alloc::{AllocError, Global};
 
 /// What is to be done.
 #[derive(Clone, Copy, PartialEq, Eq)]
@@ -16,8 +18,8 @@ pub(crate) enum Verb {
     Work,
 }
 
-fn verb_of(word: &String) -> Option<Verb>
-    ensures { MatchOption result ((verb : Verb) → string_bytes word.now ≡ verb_word verb → ⊥) (λ verb. string_bytes word.now ≡ verb_word verb) }
+fn verb_of(word: &str) -> Option<Verb>
+    ensures { MatchOption result ((verb : Verb) → word.now ≡ verb_word verb → ⊥) (λ verb. word.now ≡ verb_word verb) }
 {
     if is_text(word, b"solve") {
         return Some(Verb::Solve);
@@ -115,17 +117,23 @@ fn command_of(verb: Verb, given: &Given) -> Option<Command>
 }
 
 /// The command that the words behind the program's name mean, or none.
-pub fn read_words(words: &Vec<String>) -> Option<Command>
-    ensures { MatchOption result (MeansNothing (map string_bytes words.now.items)) (Means (map string_bytes words.now.items)) }
+///
+/// The rule says which words mean a command; the values of the options of such words are those that clap hands out.
+pub fn read_words(alloc: Global, words: &Vec<String>) -> Result<Option<Command>, AllocError>
+    ensures { IfOk result (λ asked. MatchOption asked (MeansNothing (map string_bytes words.now.items)) (Means (map string_bytes words.now.items))) }
 {
     if words.is_empty() {
-        return None;
+        return Ok(None);
     }
-    let Some(verb) = verb_of(&words[0]) else {
-        return None;
+    let Some(verb) = verb_of(words[0].as_str()) else {
+        return Ok(None);
     };
-    let Some(given) = read_options(words) else {
-        return None;
+    let Some(ruled) = read_options(words) else {
+        return Ok(None);
     };
-    command_of(verb, &given)
+    if command_of(verb, &ruled).is_none() {
+        return Ok(None);
+    }
+    let given = given_by(alloc, words)?;
+    Ok(command_of(verb, &given))
 }

@@ -1,5 +1,6 @@
 -- What holds of a command holds of one that is the same.
-use Rattle.std.proofs.Common.{◌≡◌, ℕ, List, subst, sym}
+use Rattle.std.proofs.Common.{◌≡◌, ℕ, List, [], arith, subst, sym}
+use Rattle.std.proofs.KnownBytes.{Consumes-nil}
 use Rattle.std.specs.declared.option.Option.{Option}
 use Rattle.command_words.specs.declared.commands.Command.{Command}
 use Rattle.corr_run.specs.declared.status.Status.{Status}
@@ -12,3 +13,7 @@ ends_as x y left before after status e ends = subst (λ (asked : Command). Ends 
 
 pub takes_as : (x y : Command) (old new : Option (List ℕ)) → x ≡ y → TakesAtMost (most_taken x) old new → TakesAtMost (most_taken y) old new
 takes_as x y old new e takes = subst (λ (asked : Command). TakesAtMost (most_taken asked) old new) e takes
+
+-- a source that is as it was gave nothing
+pub takes_nothing : (most : ℕ) (left : Option (List ℕ)) → TakesAtMost most left left
+takes_nothing most left = record { taken = []; within = omega arith; consumed = Consumes-nil left }

@@ -157,7 +157,11 @@ pub fn run<S: Source, K: Sink>(
     ensures source_count { S.faults src.old ≤ S.faults src.new }
     ensures sink_count { K.faults out.old ≤ K.faults out.new }
 {
-    match read_words(words) {
+    let meaning = match read_words(alloc, words) {
+        Ok(meaning) => meaning,
+        Err(_) => return Status::NoMemory,
+    };
+    match meaning {
         None => write_whole(out, USAGE, Status::Usage),
         Some(asked) => carry_out(alloc, asked, src, out),
     }
