@@ -4,6 +4,7 @@
 //! `generated` those that a rule writes, and `runs` the way of a text through `corr_run::run`.
 //!
 //! - `reports`, `notions`, `refusals`, `limits`, `cuts` and `families` compare what is printed
+//! - `checked` has the verdicts on reports, true and forged; `made` what is generated and its summaries
 //! - `equilibria` counts out, over all plans and all deviations, that each distribution that is found is an equilibrium
 //! - `certificates` multiplies out that each side's multipliers bound each column of the program
 //! - `belts` goes round the sides: with the two before, a polygon is neither too small nor too large
@@ -13,6 +14,8 @@
 mod belts;
 #[cfg(test)]
 mod certificates;
+#[cfg(test)]
+mod checked;
 #[cfg(test)]
 mod cuts;
 #[cfg(test)]
@@ -29,6 +32,8 @@ mod games;
 mod generated;
 #[cfg(test)]
 mod limits;
+#[cfg(test)]
+mod made;
 #[cfg(test)]
 mod notions;
 #[cfg(test)]
