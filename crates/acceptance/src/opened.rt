@@ -4,7 +4,8 @@ ghost use Rattle.connected_pairs.specs.Connected.{IsPairsOf};
 
 use connected_pairs::Pairs;
 use corr_game::{Game, Notion};
-use efg_reader::{build, read_lines};
+use efg_lines::read_lines;
+use efg_reader::build;
 use game_scale::scale;
 use incentive_rows::{incentives, program_size};
 use lp_form::Lp;

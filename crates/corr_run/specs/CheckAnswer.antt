@@ -7,7 +7,7 @@ use Rattle.cert_check.specs.Fits.{AllFit}
 use Rattle.cert_check.specs.Scales.{HasScales}
 use Rattle.connected_pairs.specs.Connected.{IsPairsOf, PairsView}
 use Rattle.corr_game.specs.Game.{GameView}
-use Rattle.efg_reader.specs.FileTokens.{HasFile}
+use Rattle.efg_lines.specs.FileTokens.{HasFile}
 use Rattle.report_form.specs.declared.refusals.Refusal.{Refusal}
 use Rattle.report_form.specs.declared.refusals.Refusal.TheVariants.{Report}
 use Rattle.report_form.specs.Ranges.{IsReport}

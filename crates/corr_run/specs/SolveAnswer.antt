@@ -1,7 +1,7 @@
 -- What `solve` answers: a text and a status, one constructor for each case.
 use Rattle.std.specs.Prelude.{◌≡◌, ℕ, ◌^◌, ◌<◌, ◌≤◌, List, length}
 use Rattle.corr_game.specs.declared.payoffs.Pay.{Pay}
-use Rattle.efg_reader.specs.FirstForm.{HasFirstForm}
+use Rattle.one_node_file.specs.FirstForm.{HasFirstForm}
 use Rattle.report_form.specs.declared.refusals.Refusal.{Refusal}
 use Rattle.report_form.specs.View.{ReportView}
 use Rattle.report_form.specs.Ranges.{IsReport}

@@ -2,7 +2,7 @@
 ghost use Rattle.std.specs.Prelude.{◌≡◌, ◌^◌, ◌≤◌, drop, IfOk, length, MatchOption, true};
 ghost use Rattle.cert_check.specs.Fits.{AllFit};
 ghost use Rattle.connected_pairs.specs.Connected.{IsPairsOf};
-ghost use Rattle.efg_reader.specs.FileTokens.{HasFile};
+ghost use Rattle.efg_lines.specs.FileTokens.{HasFile};
 ghost use Rattle.corr_run.specs.CheckAnswer.{CheckAnswer, verdict_status};
 ghost use Rattle.corr_run.specs.Refusals.{IsOfInput};
 

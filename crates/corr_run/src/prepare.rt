@@ -1,6 +1,6 @@
 // From the bytes of a file to a game that may be solved.
 ghost use Rattle.std.specs.Prelude.{◌≡◌, ◌<◌, ◌≤◌, ◌^◌, length, IfErr, IfOk};
-ghost use Rattle.efg_reader.specs.FileTokens.{HasFile};
+ghost use Rattle.efg_lines.specs.FileTokens.{HasFile};
 ghost use Rattle.tree_recall.specs.LastMove.{IsRecallOf};
 ghost use Rattle.connected_pairs.specs.Connected.{IsPairsOf};
 ghost use Rattle.triangle_test.specs.Triangle.{IsTriangle};
@@ -10,7 +10,8 @@ ghost use Rattle.corr_run.specs.Refusals.{IsOfInput, IsReadyEnd};
 
 use connected_pairs::Pairs;
 use corr_game::{Game, Side};
-use efg_reader::{FileRefusal, build, read_lines};
+use efg_lines::{FileRefusal, read_lines};
+use efg_reader::build;
 use game_scale::{ScaleRefusal, scale};
 use report_form::{NodeRule, Refusal};
 use sequences::Seqs;

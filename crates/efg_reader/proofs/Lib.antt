@@ -1,17 +1,9 @@
-pub mod Again
 pub mod Assembling
-pub mod ByToken
 pub mod Depth
-pub mod FileEnds
-pub mod FileLeft
-pub mod Found
 pub mod KnownSet
 pub mod ListedValues
 pub mod OneTree
 pub mod PlaceBelow
-pub mod ReadsBack
 pub mod SetsSoFar
-pub mod StepBack
-pub mod SyntaxPlace
 pub mod WholeGame
 pub mod Widths

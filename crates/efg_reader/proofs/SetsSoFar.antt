@@ -14,7 +14,7 @@ use Rattle.corr_game.specs.Sets.{AreInOrder, IsMetOrNext, met_with}
 use Rattle.corr_game.proofs.SetCount.{count_at_most}
 use Rattle.efg_reader.specs.declared.entry.Turn.{Turn}
 use Rattle.efg_reader.specs.declared.entry.Turn.TheVariants.{Player}
-use Rattle.efg_reader.specs.declared.node_line.LineKind.{LineKind}
+use Rattle.efg_lines.specs.declared.node_line.LineKind.{LineKind}
 use Rattle.efg_reader.specs.Turn.{IsTurnOf}
 use Rattle.efg_reader.specs.declared.events.Bare.{Bare}
 use Rattle.efg_reader.specs.declared.events.Event.{Event}

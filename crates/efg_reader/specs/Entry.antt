@@ -5,10 +5,10 @@ use Rattle.number_words.specs.Value.{number_value, whole_value}
 use Rattle.efg_reader.specs.declared.entry.Entry.{Entry}
 use Rattle.efg_reader.specs.declared.entry.Turn.{Turn}
 use Rattle.efg_reader.specs.declared.entry.Turn.TheVariants as turn
-use Rattle.efg_reader.specs.declared.node_line.ActLine.{ActLine}
-use Rattle.efg_reader.specs.declared.node_line.LineKind.{LineKind}
-use Rattle.efg_reader.specs.declared.node_line.LineKind.TheVariants as kind
-use Rattle.efg_reader.specs.declared.node_line.NodeLine.{NodeLine}
+use Rattle.efg_lines.specs.declared.node_line.ActLine.{ActLine}
+use Rattle.efg_lines.specs.declared.node_line.LineKind.{LineKind}
+use Rattle.efg_lines.specs.declared.node_line.LineKind.TheVariants as kind
+use Rattle.efg_lines.specs.declared.node_line.NodeLine.{NodeLine}
 
 -- who moves and at which set, and in a chance line the probabilities that it lists
 pub data Mover : Type 0 where

@@ -3,9 +3,9 @@ use Rattle.std.specs.Prelude.{ℕ, ◌^◌, Bool, nat_le, nat_lt, ◌==◌, if�
 use Rattle.number_words.specs.Number.{NumberView}
 use Rattle.number_words.specs.Chances.{has_negative, common_denominator, sum_to_one}
 use Rattle.efg_reader.specs.declared.first_lists.FirstList.{FirstList}
-use Rattle.efg_reader.specs.declared.node_line.ActLine.{ActLine}
-use Rattle.efg_reader.specs.declared.refusal.FileRefusal.{FileRefusal}
-use Rattle.efg_reader.specs.declared.refusal.FileRefusal.TheVariants.{ExtraNode, TooManyNodes, TooDeep, NoActions, TooManyActions, ChanceNegative, ChanceTooFine, ChanceSum}
+use Rattle.efg_lines.specs.declared.node_line.ActLine.{ActLine}
+use Rattle.efg_lines.specs.declared.refusal.FileRefusal.{FileRefusal}
+use Rattle.efg_lines.specs.declared.refusal.FileRefusal.TheVariants.{ExtraNode, TooManyNodes, TooDeep, NoActions, TooManyActions, ChanceNegative, ChanceTooFine, ChanceSum}
 
 -- what an answer refuses
 abbrev pub refusal_in : {A : Type 0} → Result A FileRefusal → Option FileRefusal

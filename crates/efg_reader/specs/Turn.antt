@@ -2,9 +2,9 @@
 use Rattle.std.specs.Prelude.{◌≡◌, ◌<◌, ◌^◌, List, length, Option, None, IfSome}
 use Rattle.efg_reader.specs.declared.entry.Turn.{Turn}
 use Rattle.efg_reader.specs.declared.entry.Turn.TheVariants as turn
-use Rattle.efg_reader.specs.declared.node_line.ActLine.{ActLine}
-use Rattle.efg_reader.specs.declared.node_line.LineKind.{LineKind}
-use Rattle.efg_reader.specs.declared.node_line.LineKind.TheVariants as kind
+use Rattle.efg_lines.specs.declared.node_line.ActLine.{ActLine}
+use Rattle.efg_lines.specs.declared.node_line.LineKind.{LineKind}
+use Rattle.efg_lines.specs.declared.node_line.LineKind.TheVariants as kind
 
 -- the actions that a line lists
 abbrev pub acts_in : LineKind → Option (List ActLine)

@@ -17,14 +17,12 @@ ghost use Rattle.efg_reader.specs.Sets.{info_of, turn_of, AreChances, AreSetsOf,
 use crate::entry::{Entry, Turn, read_entry};
 use crate::events::{Bare, Event};
 use crate::first_lists::{FirstList, OutcomePays};
-use crate::node_line::{ActLines, LineKind, NodeLine};
 use crate::outline::Outline;
-use crate::raw_file::RawFile;
 use crate::raw_game::{FracList, RawGame};
-use crate::refusal::FileRefusal;
 use crate::set_lists::{define_set, list_at};
 use crate::tree::assemble;
 use corr_game::{SetId, SetInfo, Side};
+use efg_lines::{ActLines, FileRefusal, LineKind, NodeLine, RawFile};
 use indexmap::IndexMap;
 use number_words::{Number, common_denominator, has_negative, sums_to_one};
 use std::alloc::{AllocError as NoMemory, Global};

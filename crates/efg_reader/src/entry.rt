@@ -5,7 +5,7 @@ ghost use Rattle.number_words.specs.Value.{number_value};
 ghost use Rattle.efg_reader.specs.Entry.{mover, mover_of, numbers, numbers_of, payoffs, probabilities, probability, values};
 ghost use Rattle.efg_reader.specs.Turn.{acts_in, IsTurnOf};
 
-use crate::node_line::{ActLine, ActLines, LineKind, NodeLine, PayWords};
+use efg_lines::{ActLine, ActLines, LineKind, NodeLine, PayWords};
 use number_words::{Number, number_value, whole_value};
 use std::alloc::{AllocError as NoMemory, Global};
 

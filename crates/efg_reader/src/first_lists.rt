@@ -2,7 +2,7 @@
 
 ghost use Rattle.std.specs.Prelude.{◌≤◌, length};
 
-use crate::node_line::ActLines;
+use efg_lines::ActLines;
 use number_words::Number;
 
 /// The first list of a set: its actions, and in a chance set their probabilities.

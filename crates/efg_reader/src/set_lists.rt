@@ -5,8 +5,7 @@ ghost use Rattle.indexmap.specs.IndexMap.{index_map_len};
 ghost use Rattle.efg_reader.specs.Sets.{IsDefined};
 
 use crate::first_lists::FirstList;
-use crate::node_line::ActLines;
-use crate::refusal::FileRefusal;
+use efg_lines::{ActLines, FileRefusal};
 use indexmap::IndexMap;
 
 /// Keeps the list of a set, where the line is the first with one, and gives the set's index.
