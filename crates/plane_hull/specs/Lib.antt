@@ -1,2 +1,4 @@
 pub mod Angle
 pub mod Belt
+pub mod BeltFault
+pub mod Round
