@@ -1,8 +1,11 @@
+pub mod Agreeing
 pub mod Choosing
 pub mod Coming
 pub mod Descents
+pub mod FirstSets
 pub mod Mixing
 pub mod Nesting
 pub mod NodesBelow
 pub mod Splitting
+pub mod StartGains
 pub mod Together

@@ -85,13 +85,13 @@ entry_split Two g set info choice entry is there low = plan_split
 pub no_more : (l f s t : ℤ) → (pos 1 *ℤ l) ≤ℤ (pos 1 *ℤ f +ℤ pos 0 *ℤ s *ℤ t) → l ≤ℤ f
 no_more l f s t h = omega (arith, ints, rw (zero-*ℤ s, zero-*ℤ t, one-*ℤ l, one-*ℤ f) at h)
 
-no_more_back : (l f s t : ℤ) → l ≤ℤ f → (pos 1 *ℤ l) ≤ℤ (pos 1 *ℤ f +ℤ pos 0 *ℤ s *ℤ t)
+pub no_more_back : (l f s t : ℤ) → l ≤ℤ f → (pos 1 *ℤ l) ≤ℤ (pos 1 *ℤ f +ℤ pos 0 *ℤ s *ℤ t)
 no_more_back l f s t h = rw (zero-*ℤ s, zero-*ℤ t, one-*ℤ l, one-*ℤ f) (omega (arith, ints))
 
-no_gain : (l f : ℤ) → l ≤ℤ f → (l -ℤ f) ≤ℤ pos 0
+pub no_gain : (l f : ℤ) → l ≤ℤ f → (l -ℤ f) ≤ℤ pos 0
 no_gain l f h = omega (arith, ints)
 
-no_gain_together : (l f s z : ℤ) → l -ℤ f ≡ s → s ≤ℤ z → z ≡ pos 0 → l ≤ℤ f
+pub no_gain_together : (l f s z : ℤ) → l -ℤ f ≡ s → s ≤ℤ z → z ≡ pos 0 → l ≤ℤ f
 no_gain_together l f s z split most none = omega (arith, ints)
 
 abbrev no_slack : Slack

@@ -52,6 +52,12 @@ pub fn told_sets_are_reached()
         → IsEquilibriumList Efcce g (record { num = 0; den = 1 }) list }
 {}
 
+/// With perfect recall an extensive-form coarse correlated equilibrium is a normal-form coarse one.
+pub fn leaving_at_first_sets_is_leaving_at_the_start()
+    ensures { (g : GameView) (list : List Entry) → IsGame g → ((side : Side) → HasRecall g side)
+        → IsEquilibriumList Efcce g (record { num = 0; den = 1 }) list → IsEquilibriumList Nfcce g (record { num = 0; den = 1 }) list }
+{}
+
 /// Two equilibrium lists, one behind the other, are one.
 pub fn lists_together()
     ensures { (notion : Notion) (g : GameView) (slack : Slack) (xs ys : List Entry) → IsEquilibriumList notion g slack xs
