@@ -1,4 +1,10 @@
 pub mod ChickenLists
+pub mod Entries
+pub mod Fronts
 pub mod Grafting
 pub mod Leading
+pub mod NewPlans
+pub mod ReachedPoints
 pub mod RunningSums
+pub mod WeightRoom
+pub mod WeightedSums

@@ -1,2 +1,5 @@
+pub mod Fronts
+pub mod PaidWith
 pub mod ReducedAt
 pub mod Samples
+pub mod Weights

@@ -5,18 +5,27 @@
 //!
 //! - `leads`, `is_reduced`: to which sets a plan leads, and whether it names an action at those alone
 //! - `is_below`, `graft`: the sets below another, and the plan of a player who leaves at a set
+//! - `is_equilibrium`: whether a list of pairs of plans is an equilibrium list of a notion and a slack
+//! - `payoff_point`: what such a list pays on average
 //! - `is_solution`: whether numbers solve a linear program
 #![tactic(auto)]
 
+mod deviations;
+mod equilibria;
 mod grafts;
 mod plans;
+mod points;
 mod samples;
 mod solutions;
+mod sums;
 
+pub use equilibria::{Slack, are_entries, is_equilibrium};
 pub use grafts::{graft, is_below};
 pub use plans::{is_reduced, leads};
+pub use points::{PayoffPoint, payoff_point};
 pub use samples::a_list_of_chicken_that_is_none;
 pub use solutions::is_solution;
+pub use sums::are_weights;
 
 #[cfg(test)]
 mod spreads;

@@ -139,7 +139,7 @@ fn allows(side: Side, plan: &Plan, node: &Node, action: usize) -> bool
 }
 
 /// Whether a plan names this action at a set.
-fn names(plan: &Plan, set: SetId, action: usize) -> bool
+pub fn names(plan: &Plan, set: SetId, action: usize) -> bool
     requires { set.0 < length plan.now }
     ensures { result ≡ names action (slice_get plan.now set.0) }
 {
