@@ -2,9 +2,13 @@ pub mod Above
 pub mod Assembly
 pub mod Entry
 pub mod Event
+pub mod FileGame
+pub mod FirstRefusal
 pub mod Outline
 pub mod Places
 pub mod RawGame
 pub mod Rules
 pub mod Sets
+pub mod Told
+pub mod TreeSoFar
 pub mod Turn
