@@ -21,20 +21,20 @@ unless (Some refusal) answer = Err refusal
 abbrev pub turn_rules : ℕ → LineKind → Mover → Option Listed → Option FileRefusal
 turn_rules node line mover first =
     first_of (
-      player_rules node mover
-      ∷ action_rules node (acts_in line)
-      ∷ draw_rules node mover (acts_in line)
-      ∷ set_rules node mover first (listed line mover)
-      ∷ [])
+    player_rules node mover
+    ∷ action_rules node (acts_in line)
+    ∷ draw_rules node mover (acts_in line)
+    ∷ set_rules node mover first (listed line mover)
+    ∷ [])
 
 -- the rules behind that on the limits of numbers, at a line behind the lines before
 abbrev pub told_refusal : List Told → Told → Option FileRefusal
 told_refusal before told =
     let node = length before in
     first_of (
-      turn_rules node told.line.kind told.numbers.mover (first_list before told.numbers.mover)
-      ∷ payoff_rules node (first_payoffs before told.numbers.outcome) (paid told)
-      ∷ [])
+    turn_rules node told.line.kind told.numbers.mover (first_list before told.numbers.mover)
+    ∷ payoff_rules node (first_payoffs before told.numbers.outcome) (paid told)
+    ∷ [])
 
 -- the numbers of a line, which are none where one passes its limit, and the rules behind that
 abbrev pub told_line : List Told → NodeLine → Option Numbers → Result Told FileRefusal
