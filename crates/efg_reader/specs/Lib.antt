@@ -4,11 +4,13 @@ pub mod Entry
 pub mod Event
 pub mod FileGame
 pub mod FirstRefusal
+pub mod Lists
 pub mod Outline
 pub mod Places
 pub mod RawGame
 pub mod Rules
 pub mod Sets
+pub mod Taken
 pub mod Told
 pub mod TreeSoFar
 pub mod Turn

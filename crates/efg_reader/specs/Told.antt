@@ -1,6 +1,6 @@
 -- Lines whose numbers are all within their limits, and what they say of sets and outcomes: a set keeps the first list
 -- that a line gives for it, and an outcome the first payoffs.
-use Rattle.std.specs.Prelude.{ℕ, ◌==◌, nat_eq, not, false, if◌then◌else◌, List, [], ◌∷◌, length, map, filter, filter_map, Option, Some, None, option_map, option_and_then}
+use Rattle.std.specs.Prelude.{ℕ, ◌==◌, nat_eq, not, false, if◌then◌else◌, List, [], ◌∷◌, map, filter, filter_map, Option, Some, None, option_map, option_and_then}
 use Rattle.std.specs.Map.{lookup}
 use Rattle.number_words.specs.Number.{NumberView}
 use Rattle.efg_reader.specs.Entry.{Mover, draws, moves, nobody, Numbers}

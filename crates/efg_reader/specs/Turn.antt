@@ -12,8 +12,9 @@ acts_in (kind.Chance set acts) = acts
 acts_in (kind.Player player set acts) = acts
 acts_in kind.Leaf = None
 
--- a chance line has a probability for each action that it lists, and the number of a player's set is within its limit
+-- a chance line has a probability for each action that it lists, the number of a player's set is within its limit, and a
+-- leaf's line lists no actions
 abbrev pub IsTurnOf : LineKind → Turn → Type 0
 IsTurnOf line (turn.Chance set probs) = IfSome (acts_in line) (λ acts. length probs.items ≡ length acts)
 IsTurnOf line (turn.Player player set) = set < 2 ^ 31
-IsTurnOf line turn.Leaf = Unit {0}
+IsTurnOf line turn.Leaf = acts_in line ≡ None

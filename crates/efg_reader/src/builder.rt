@@ -1,25 +1,34 @@
 //! The rules at the nodes of a file, one line after the other.
 
-ghost use Rattle.std.specs.Prelude.{◌≡◌, ◌+◌, ◌≤◌, ◌<◌, ◌^◌, length, vec_len, map, slice_get, Some, IsTrue, IfOk, IfSome, OnOk, All, nat_eq, option_map, ◌==◌, ◌++◌, ◌∷◌, []};
+ghost use Rattle.std.specs.Prelude.{◌≡◌, ◌+◌, ◌≤◌, ◌<◌, ◌^◌, length, vec_len, map, slice_get, Some, IsTrue, IfOk, IfSome, OnOk, All, nat_eq, option_map, IfErr, None, List, if◌then◌else◌, ◌++◌, ◌∷◌, []};
 ghost use Rattle.std.specs.List.{IsDistinct};
-ghost use Rattle.indexmap.specs.IndexMap.{index_map_len, keys};
+ghost use Rattle.indexmap.specs.IndexMap.{get, index_map_len, keys};
+ghost use Rattle.efg_reader.specs.declared.first_lists.FirstList.{FirstList};
+ghost use Rattle.efg_lines.specs.declared.refusal.FileRefusal.TheVariants.{MissingNode};
 ghost use Rattle.efg_reader.specs.Event.{is_fit, HasChances, IsDraw};
 ghost use Rattle.number_words.specs.Number.{IsPart};
 ghost use Rattle.efg_reader.specs.RawGame.{IsProbability};
 ghost use Rattle.corr_game.specs.declared.sides.Side.TheVariants.{One, Two};
 ghost use Rattle.efg_reader.specs.Turn.{acts_in, IsTurnOf};
 ghost use Rattle.efg_reader.specs.Above.{AreShallow};
-ghost use Rattle.efg_reader.specs.Outline.{above, places};
+ghost use Rattle.efg_reader.specs.FirstRefusal.{file_refusal, next_line, turn_rules, IsRefusalOf};
+ghost use Rattle.efg_reader.specs.Entry.{mover_of};
+ghost use Rattle.efg_reader.specs.Lists.{AreFirstOutcomes, entry_in, list_among, list_entry, listed_in, with_given};
+ghost use Rattle.efg_reader.specs.Outline.{above, is_whole, places};
 ghost use Rattle.efg_reader.specs.Places.{awaited};
-ghost use Rattle.efg_reader.specs.Rules.{refusal_in, action_rules, chance_rules, list_chance_rules, place_rules};
+ghost use Rattle.efg_reader.specs.Rules.{refusal_in, action_rules, chance_rules, first_of, list_chance_rules, named_rules, place_rules, Refuses};
 ghost use Rattle.efg_reader.specs.Sets.{info_of, turn_of, AreChances, AreSetsOf, IsChoice, IsWhole};
+ghost use Rattle.efg_reader.specs.Taken.{HasTaken, IsNamed, IsNext};
+ghost use Rattle.efg_reader.specs.Told.{chance, list_of, player, set_list, Told};
+ghost use Rattle.efg_reader.specs.TreeSoFar.{action_count};
 
 use crate::entry::{Entry, Turn, read_entry};
 use crate::events::{Bare, Event};
 use crate::first_lists::{FirstList, OutcomePays};
+use crate::outcomes::{first_outcomes, take_outcome};
 use crate::outline::Outline;
 use crate::raw_game::{FracList, RawGame};
-use crate::set_lists::{define_set, list_at};
+use crate::set_lists::{check_set, define_set, list_at};
 use crate::tree::assemble;
 use corr_game::{SetId, SetInfo, Side};
 use efg_lines::{ActLines, FileRefusal, LineKind, NodeLine, RawFile};
@@ -31,13 +40,16 @@ use std::alloc::{AllocError as NoMemory, Global};
 ///
 /// The first rule that a node breaks is the refusal, nodes in file order and rules in that of `FileRefusal`. `Players`
 /// comes before all nodes, `MissingNode` behind them.
-pub fn build(alloc: Global, file: RawFile) -> Result<RawGame, FileRefusal> {
+pub fn build(alloc: Global, file: RawFile) -> Result<RawGame, FileRefusal>
+    ensures refused { IfErr result (λ refusal. IsRefusalOf file refusal) }
+    ensures accepted { OnOk result (file_refusal file ≡ None) }
+{
     if file.players() != 2 {
         return Err(FileRefusal::Players {
             count: file.players(),
         });
     }
-    let mut builder = Builder::new(alloc);
+    let mut builder = Builder::new(alloc, first_outcomes(alloc)?);
     for line in file.lines() {
         builder.add(line)?;
     }
@@ -57,20 +69,21 @@ struct Builder<'a> {
 }
 
 impl<'a> Builder<'a> {
-    fn new(alloc: Global) -> Builder<'a>
+    fn new(alloc: Global, outcomes: IndexMap<u32, OutcomePays>) -> Builder<'a>
         ensures nodes { vec_len result.nodes ≡ 0 }
         ensures tree { awaited 1 result.nodes.items ≡ Some (places result.outline) }
         ensures shallow { AreShallow [] result.nodes.items (above result.outline) }
         ensures one { AreSetsOf One (map turn_of result.nodes.items) result.one.entries }
         ensures two { AreSetsOf Two (map turn_of result.nodes.items) result.two.entries }
         ensures chance { AreChances result.chance.entries }
+        ensures taken { AreFirstOutcomes outcomes.entries → HasTaken result [] }
     {
         Builder {
             alloc,
             chance: IndexMap::new(alloc),
             one: IndexMap::new(alloc),
             two: IndexMap::new(alloc),
-            outcomes: IndexMap::new(alloc),
+            outcomes,
             outline: Outline::new(alloc),
             nodes: Vec::new(alloc),
         }
@@ -90,6 +103,8 @@ impl<'a> Builder<'a> {
         ensures one { OnOk result (AreSetsOf One (map turn_of self.new.nodes.items) self.new.one.entries) }
         ensures two { OnOk result (AreSetsOf Two (map turn_of self.new.nodes.items) self.new.two.entries) }
         ensures chance { OnOk result (AreChances self.new.chance.entries) }
+        ensures refusal { (lines : List Told) → HasTaken self.old lines → Refuses result (refusal_in (next_line lines line.now)) }
+        ensures taken { (lines : List Told) → HasTaken self.old lines → OnOk result (IsNext lines line.now self.new) }
     {
         let node = self.nodes.len() as u32;
         self.check_place(node)?;
@@ -102,7 +117,14 @@ impl<'a> Builder<'a> {
             pays,
         } = entry;
         let (event, kids) = self.take_turn(&line.kind, turn, node)?;
-        let pays = self.take_outcome(line.pays.is_some(), outcome, pays.as_slice(), node)?;
+        let is_listed = line.pays.is_some();
+        let pays = take_outcome(
+            &mut self.outcomes,
+            outcome,
+            is_listed,
+            pays.as_slice(),
+            node,
+        )?;
         self.outline.place(kids)?;
         self.nodes.push(Bare {
             event,
@@ -115,7 +137,7 @@ impl<'a> Builder<'a> {
 
     /// The rules on the place of a node in the tree.
     fn check_place(&self, node: u32) -> Result<(), FileRefusal>
-        ensures refusal { refusal_in result ≡ place_rules node (places self.now.outline == 0) (length (above self.now.outline)) }
+        ensures refusal { refusal_in result ≡ place_rules node (is_whole self.now.outline) (length (above self.now.outline)) }
         ensures few { OnOk result (node < 4096) }
         ensures waits { OnOk result (0 < places self.now.outline) }
         ensures shallow { OnOk result (length (above self.now.outline) ≤ 256) }
@@ -151,6 +173,12 @@ impl<'a> Builder<'a> {
         ensures one { IfOk result (λ it. AreSetsOf One (map turn_of self.old.nodes.items ++ it ∷ []) self.new.one.entries) }
         ensures two { IfOk result (λ it. AreSetsOf Two (map turn_of self.old.nodes.items ++ it ∷ []) self.new.two.entries) }
         ensures chance { OnOk result (AreChances self.new.chance.entries) }
+        ensures outcomes { self.new.outcomes ≡ self.old.outcomes }
+        ensures refusal { Refuses result (turn_rules node line.now (mover_of turn) (list_among self.old.chance.entries self.old.one.entries self.old.two.entries (mover_of turn))) }
+        ensures sets_of_chance { OnOk result (map entry_in self.new.chance.entries ≡ with_given (set_list chance line.now (mover_of turn)) (map entry_in self.old.chance.entries)) }
+        ensures sets_of_one { OnOk result (map entry_in self.new.one.entries ≡ with_given (set_list (player 1) line.now (mover_of turn)) (map entry_in self.old.one.entries)) }
+        ensures sets_of_two { OnOk result (map entry_in self.new.two.entries ≡ with_given (set_list (player 2) line.now (mover_of turn)) (map entry_in self.old.two.entries)) }
+        ensures kids { IfOk result (λ it. IsNamed (mover_of turn) (list_among self.new.chance.entries self.new.one.entries self.new.two.entries (mover_of turn)) it.1) }
     {
         match turn {
             Turn::Leaf => Ok((Event::Leaf, 0)),
@@ -170,50 +198,6 @@ impl<'a> Builder<'a> {
         }
     }
 
-    /// The rules on the outcome; its payoffs.
-    fn take_outcome(
-        &mut self,
-        is_listed: bool,
-        outcome: u32,
-        pays: &[Number],
-        node: u32,
-    ) -> Result<OutcomePays, FileRefusal>
-        ensures nodes { self.new.nodes ≡ self.old.nodes }
-        ensures outline { self.new.outline ≡ self.old.outline }
-        ensures one { self.new.one ≡ self.old.one }
-        ensures two { self.new.two ≡ self.old.two }
-        ensures chance { self.new.chance ≡ self.old.chance }
-    {
-        let known = if outcome == 0 {
-            Some(OutcomePays::nothing())
-        } else {
-            self.outcomes.get(&outcome).copied()
-        };
-        if !is_listed {
-            return known.ok_or(FileRefusal::OutcomeUnknown { node });
-        }
-        if pays.len() != 2 {
-            return Err(FileRefusal::PayoffCount { node });
-        }
-        let pays = OutcomePays {
-            one: pays[0],
-            two: pays[1],
-        };
-        match known {
-            Some(known) => {
-                if known == pays {
-                    Ok(pays)
-                } else {
-                    Err(FileRefusal::OutcomeDiffers { node })
-                }
-            }
-            None => {
-                self.outcomes.insert(outcome, pays)?;
-                Ok(pays)
-            }
-        }
-    }
-
     /// The game, of which all lines have been taken.
     fn finish(self) -> Result<RawGame, FileRefusal>
         requires nodes { vec_len self.nodes ≤ 4096 }
@@ -221,6 +205,7 @@ impl<'a> Builder<'a> {
         requires shallow { AreShallow [] self.nodes.items (above self.outline) }
         requires one { AreSetsOf One (map turn_of self.nodes.items) self.one.entries }
         requires two { AreSetsOf Two (map turn_of self.nodes.items) self.two.entries }
+        ensures refusal { Refuses result (if is_whole self.entry.outline then None else Some (MissingNode (vec_len self.entry.nodes))) }
     {
         if !self.outline.is_closed() {
             return Err(FileRefusal::MissingNode {
@@ -253,6 +238,7 @@ fn checked_list<'a>(
 ) -> Result<Option<FirstList<'a>>, FileRefusal>
     ensures refusal { refusal_in result ≡ action_rules node (option_map (λ lines. lines.now) acts.entry) }
     ensures whole { IfSome acts.entry (λ lines. length probs.items ≡ length lines.now) → IfOk result (λ list. IfSome list IsWhole) }
+    ensures listed { IfOk result (λ list. option_map listed_in list ≡ option_map (λ lines. list_of lines.now probs.items) acts.entry) }
 {
     let Some(acts) = acts else {
         return Ok(None);
@@ -278,9 +264,13 @@ fn take_chance<'a>(
     ensures chances { IfOk result (λ it. HasChances it.0 it.1) }
     ensures lists { OnOk result (AreChances lists.new.entries) }
     ensures draw { IfOk result (λ it. IsDraw it.0) }
+    ensures refusal { Refuses result (first_of (list_chance_rules node list.entry ∷ named_rules node (option_map listed_in (get nat_eq lists.old set)) (option_map listed_in list.entry) ∷ [])) }
+    ensures new_lists { OnOk result (map entry_in lists.new.entries ≡ with_given (list_entry set list.entry) (map entry_in lists.old.entries)) }
+    ensures kids { IfOk result (λ it. (first : FirstList) × (get nat_eq lists.new set ≡ Some first) × (it.1 ≡ length first.acts.now)) }
 {
     check_list_chances(&list, node)?;
-    let index = define_set(lists, set, list, node)?;
+    check_set(lists.get(&set), &list, node)?;
+    let index = define_set(lists, set, list)?;
     let first = list_at(lists, index);
     let probs = fracs_of(alloc, first.probs.as_slice())?;
     Ok((Event::Chance { probs }, first.acts.len() as u32))
@@ -324,8 +314,12 @@ fn take_choice<'a>(
     requires { index_map_len lists.old < 4096 }
     ensures fits { IfOk result (λ it. IsTrue (is_fit it.0 it.1)) }
     ensures choice { IfOk result (λ it. IsChoice side lists.old.entries set list.entry lists.new.entries it.0 it.1) }
+    ensures refusal { Refuses result (named_rules node (option_map listed_in (get nat_eq lists.old set)) (option_map listed_in list.entry)) }
+    ensures new_lists { OnOk result (map entry_in lists.new.entries ≡ with_given (list_entry set list.entry) (map entry_in lists.old.entries)) }
+    ensures kids { IfOk result (λ it. (first : FirstList) × (get nat_eq lists.new set ≡ Some first) × (it.1 ≡ length first.acts.now)) }
 {
-    let index = define_set(lists, set, list, node)?;
+    check_set(lists.get(&set), &list, node)?;
+    let index = define_set(lists, set, list)?;
     let kids = list_at(lists, index).acts.len() as u32;
     let set = SetId(index as u32);
     Ok((Event::Choice { side, set }, kids))

@@ -1,6 +1,7 @@
 //! The first list of each set, and the payoffs of each outcome.
 
-ghost use Rattle.std.specs.Prelude.{◌≤◌, length};
+ghost use Rattle.std.specs.Prelude.{◌≡◌, ◌≤◌, length};
+ghost use Rattle.efg_reader.specs.Told.{nothing};
 
 use efg_lines::ActLines;
 use number_words::Number;
@@ -23,7 +24,10 @@ pub struct OutcomePays {
 
 impl OutcomePays {
     /// What an outcome pays that pays nothing.
-    pub fn nothing() -> OutcomePays {
+    pub fn nothing() -> OutcomePays
+        ensures one { result.one ≡ nothing }
+        ensures two { result.two ≡ nothing }
+    {
         OutcomePays {
             one: Number::zero(),
             two: Number::zero(),

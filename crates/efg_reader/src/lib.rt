@@ -10,6 +10,7 @@ mod builder;
 mod entry;
 mod events;
 mod first_lists;
+mod outcomes;
 mod outline;
 mod raw_game;
 mod set_lists;

@@ -13,13 +13,14 @@ pub struct Outline {
 }
 
 impl Outline {
-    ghost use Rattle.std.specs.Prelude.{◌+◌, ◌≤◌, ◌↔◌, [], length, OnOk, IsTrue};
+    ghost use Rattle.std.specs.Prelude.{◌+◌, ◌≤◌, ◌↔◌, [], length, true, false, OnOk, IsTrue};
     ghost use Rattle.efg_reader.specs.Above.{above_next};
-    ghost use Rattle.efg_reader.specs.Outline.{places, above};
+    ghost use Rattle.efg_reader.specs.Outline.{above, has_begun, is_whole, places};
 
     pub fn new(alloc: Global) -> Outline
         ensures places { places result ≡ 1 }
         ensures above { above result ≡ [] }
+        ensures begun { has_begun result ≡ false }
     {
         Outline {
             awaited: Vec::new(alloc),
@@ -29,7 +30,8 @@ impl Outline {
 
     /// Whether every action of every node has its subtree.
     pub fn is_closed(&self) -> bool
-        ensures { IsTrue result ↔ (places self.now ≡ 0) }
+        ensures closed { IsTrue result ↔ (places self.now ≡ 0) }
+        ensures value { result ≡ is_whole self.now }
     {
         self.begun && self.awaited.is_empty()
     }
@@ -46,6 +48,7 @@ impl Outline {
         requires { 0 < places self.old }
         ensures places { OnOk result (places self.new + 1 ≡ places self.old + kids) }
         ensures above { OnOk result (above self.new ≡ above_next (above self.old) kids) }
+        ensures begun { OnOk result (has_begun self.new ≡ true) }
     {
         let above = self.awaited.len();
         self.awaited.push(kids)?;

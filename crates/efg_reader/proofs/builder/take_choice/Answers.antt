@@ -3,6 +3,7 @@ use Rattle.std.proofs.Common.{ℕ, Option, option_map, refl, ap, ◌∙◌}
 use Rattle.std.proofs.lemmas.Option.{slice_get-map}
 use Rattle.efg_reader.specs.Sets.{info_of}
 use Rattle.efg_reader.specs.declared.first_lists.FirstList.{FirstList}
+use Rattle.efg_reader.proofs.KnownSet.{found_list}
 use Rattle.efg_reader.proofs.builder.take_choice.Goals as goal
 
 pub returns-clause-choice : goal.returns-clause-choice
@@ -18,3 +19,10 @@ returns-clause-choice c =
         c.len-kids.ensures.count,
       );
     }
+
+pub returns-clause-kids : goal.returns-clause-kids
+returns-clause-kids c = (
+  c.list_at.result.now,
+  found_list c.args.lists.now.entries c.args.set c.args.list c.define_set.new.lists.entries c.in_ok-index.index c.list_at.result.now c.in_ok-index.ensures.defined c.list_at.ensures,
+  c.len-kids.ensures.count,
+)

@@ -1,18 +1,27 @@
 -- A new set comes last, and another stays where it is.
-use Rattle.std.proofs.Common.{nat_eq, sym, ◌∙◌}
+use Rattle.std.proofs.Common.{nat_eq, Option, map, ap, sym, ◌∙◌}
 use Rattle.indexmap.proofs.CallerLemmas.{insert_entry-new}
+use Rattle.efg_reader.specs.declared.first_lists.FirstList.{FirstList}
+use Rattle.efg_reader.specs.Lists.{entry_in, list_entry, with_given}
 use Rattle.efg_reader.specs.Sets.{first}
-use Rattle.efg_reader.proofs.KnownSet.{known, known_if_ok}
+use Rattle.efg_reader.proofs.KnownSet.{known, none_found, lists_stay, lists_more}
 use Rattle.efg_reader.proofs.set_lists.define_set.Goals as goal
 
-pub returns-clause-defined : goal.returns-clause-defined
-returns-clause-defined c =
-    first c.in-Some.list c.in-Some.is
-    (c.in_ok-insert-in-None.ensures.entries ∙ insert_entry-new nat_eq c.args.lists.now c.args.set c.in-Some.list (sym c.in-None.ensures.value))
+pub returns-in-Some-clause-defined : goal.returns-in-Some-clause-defined
+returns-in-Some-clause-defined c = known c.args.lists.now.entries c.args.set c.args.list c.in-Some.index (sym c.in-Some.ensures.index)
+
+pub returns-in-Some-clause-lists : goal.returns-in-Some-clause-lists
+returns-in-Some-clause-lists c = lists_stay c.args.lists.now.entries c.args.set c.args.list (sym c.in-Some.ensures.found)
+
+pub returns-in_ok-insert-in-None-clause-defined : goal.returns-in_ok-insert-in-None-clause-defined
+returns-in_ok-insert-in-None-clause-defined c =
+    first c.in-Some-list.list c.in-Some-list.is
+    (c.in_ok-insert-in-None.ensures.entries ∙ insert_entry-new nat_eq c.args.lists.now c.args.set c.in-Some-list.list (none_found (sym c.in-None.ensures.found)))
     c.len-index.ensures.len
 
-pub returns-in_default-clause-defined : goal.returns-in_default-clause-defined
-returns-in_default-clause-defined c = known_if_ok c.args.lists.now.entries c.args.set c.args.list c.ok_or.result (sym c.get_index_of.ensures.index ∙ c.ok_or.ensures.ok_part)
-
-pub returns-then-is_same_list-clause-defined : goal.returns-then-is_same_list-clause-defined
-returns-then-is_same_list-clause-defined c = known c.args.lists.now.entries c.args.set c.args.list c.in-Some-get_full.index (sym c.in-Some-get_full.ensures.index)
+pub returns-in_ok-insert-in-None-clause-lists : goal.returns-in_ok-insert-in-None-clause-lists
+returns-in_ok-insert-in-None-clause-lists c =
+    let none = none_found (sym c.in-None.ensures.found) in
+    let more = c.in_ok-insert-in-None.ensures.entries ∙ insert_entry-new nat_eq c.args.lists.now c.args.set c.in-Some-list.list none in
+    lists_more c.args.lists.now.entries c.args.set c.in-Some-list.list c.insert.new.self.entries none more
+    ∙ ap (λ (list : Option FirstList). with_given (list_entry c.args.set list) (map entry_in c.args.lists.now.entries)) (sym c.in-Some-list.is)

@@ -1,0 +1,9 @@
+use Rattle.efg_reader.proofs.KnownSet.{found_list}
+use Rattle.efg_reader.proofs.builder.take_chance.Goals as goal
+
+pub returns-clause-kids : goal.returns-clause-kids
+returns-clause-kids c = (
+  c.list_at-first.result.now,
+  found_list c.args.lists.now.entries c.args.set c.args.list c.define_set.new.lists.entries c.in_ok-index.index c.list_at-first.result.now c.in_ok-index.ensures.defined c.list_at-first.ensures,
+  c.len.ensures.count,
+)
