@@ -1,7 +1,7 @@
 -- One thing more that is given: a number that is there keeps its first value, and a new one comes last.
-use Rattle.std.proofs.Common.{◌≡◌, ℕ, Bool, true, false, cond, not, eqb, nat_eq, List, [], ◌∷◌, ◌++◌, Option, Some, None, filter, refl, ap, sym, subst, ◌∙◌}
-use Rattle.std.specs.List.{cons_option}
-use Rattle.std.specs.Map.{lookup}
+use Rattle.std.proofs.Common.{◌≡◌, ℕ, ◌+◌, length, arith, Bool, true, false, cond, not, eqb, nat_eq, List, [], ◌∷◌, ◌++◌, Option, Some, None, filter, refl, ap, sym, subst, ◌∙◌}
+use Rattle.std.specs.List.{cons_option, position_or_len}
+use Rattle.std.specs.Map.{keys_of, lookup}
 use Rattle.std.specs.Option.{option_or}
 use Rattle.std.proofs.lemmas.Bool.{eqb-true, eqb-false, eq-eqb, ne_eqb}
 use Rattle.std.proofs.lemmas.List.{append-nil}
@@ -87,3 +87,32 @@ module _ {A : Type 0} where
       own : (o : Option A) → lookup (nat_eq n) es ≡ o → lookup (nat_eq n) (added o es n w) ≡ option_or o (Some w)
       own (Some v) found = found
       own None none = lookup-behind (nat_eq n) es ((n, w) ∷ []) none ∙ ap (λ (b : Bool). cond b (Some w) None) (eq-eqb n n refl)
+
+  -- a number that is there keeps its place
+  pub place_kept : (es ys : List (ℕ × A)) (n : ℕ) (v : A) → lookup (nat_eq n) es ≡ Some v → position_or_len (nat_eq n) (keys_of (es ++ ys)) ≡ position_or_len (nat_eq n) (keys_of es)
+  place_kept [] ys n v found = absurd (cc)
+  place_kept (e ∷ es) ys n v found = step (eqb n e.0) (λ more. place_kept es ys n v more) found
+    where
+      step : (b : Bool) → (lookup (nat_eq n) es ≡ Some v → position_or_len (nat_eq n) (keys_of (es ++ ys)) ≡ position_or_len (nat_eq n) (keys_of es)) → cond b (Some e.1) (lookup (nat_eq n) es) ≡ Some v
+          → cond (not b) (1 + position_or_len (nat_eq n) (keys_of (es ++ ys))) 0 ≡ cond (not b) (1 + position_or_len (nat_eq n) (keys_of es)) 0
+      step true more found = refl
+      step false more found = ap (λ (k : ℕ). 1 + k) (more found)
+
+  -- behind what is given so far it keeps its place too
+  pub place_stays : (given : Option (ℕ × A)) (es : List (ℕ × A)) (n : ℕ) (v : A) → lookup (nat_eq n) es ≡ Some v → position_or_len (nat_eq n) (keys_of (with_given given es)) ≡ position_or_len (nat_eq n) (keys_of es)
+  place_stays None es n v found = refl
+  place_stays (Some given) es n v found = stays (lookup (nat_eq given.0) es)
+    where
+      stays : (o : Option A) → position_or_len (nat_eq n) (keys_of (added o es given.0 given.1)) ≡ position_or_len (nat_eq n) (keys_of es)
+      stays None = place_kept es ((given.0, given.1) ∷ []) n v found
+      stays (Some w) = refl
+
+  -- a new number comes last
+  pub place_new : (es : List (ℕ × A)) (n : ℕ) (w : A) → lookup (nat_eq n) es ≡ None → position_or_len (nat_eq n) (keys_of (es ++ (n, w) ∷ [])) ≡ length es
+  place_new [] n w none = ap (λ (b : Bool). cond (not b) 1 0) (eq-eqb n n refl)
+  place_new (e ∷ es) n w none = step (eqb n e.0) (λ more. place_new es n w more) none
+    where
+      step : (b : Bool) → (lookup (nat_eq n) es ≡ None → position_or_len (nat_eq n) (keys_of (es ++ (n, w) ∷ [])) ≡ length es) → cond b (Some e.1) (lookup (nat_eq n) es) ≡ None
+          → cond (not b) (1 + position_or_len (nat_eq n) (keys_of (es ++ (n, w) ∷ []))) 0 ≡ length (e ∷ es)
+      step true more none = absurd (cc)
+      step false more none = let behind = more none in omega arith

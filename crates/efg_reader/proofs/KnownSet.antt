@@ -1,13 +1,13 @@
 -- The index that a map gives for a set is that of the set's entry.
-use Rattle.std.proofs.Common.{◌≡◌, ℕ, true, false, get_or, is_some, nat_eq, List, [], ◌∷◌, ◌++◌, Option, Some, None, map, length, slice_get, position, refl, ap, sym, subst, ◌∙◌, arith}
-use Rattle.std.specs.Prelude.{Result, Ok, Err, IfOk, option_map}
+use Rattle.std.proofs.Common.{◌≡◌, ℕ, true, false, get_or, is_some, nat_eq, nat_lt, List, [], ◌∷◌, ◌++◌, Option, Some, None, map, length, slice_get, position, refl, ap, sym, subst, ◌∙◌, arith}
+use Rattle.std.specs.Prelude.{option_map}
+use Rattle.std.specs.List.{position_or_len}
 use Rattle.std.specs.Map.{lookup}
-use Rattle.std.specs.Result.{result_ok}
 use Rattle.std.proofs.lemmas.Bool.{eqb-true}
 use Rattle.std.proofs.lemmas.List.{get_or_push, length-map, length_push, map-append}
 use Rattle.std.proofs.lemmas.Map.Made.{lookup-map_values}
 use Rattle.std.proofs.lemmas.List.Quantifiers.{position-Some}
-use Rattle.std.proofs.lemmas.Option.{same_Some, slice_get-get_or, slice_get-map}
+use Rattle.std.proofs.lemmas.Option.{cond_some, same_Some, slice_get-get_or, slice_get-map}
 use Rattle.efg_reader.specs.declared.first_lists.FirstList.{FirstList}
 use Rattle.efg_reader.specs.Lists.{added, entry_in, list_entry, listed_in, with_given}
 use Rattle.efg_reader.specs.Sets.{IsDefined, met, first}
@@ -23,11 +23,6 @@ module _ (lists : List (ℕ × FirstList)) (set : ℕ) (list : Option FirstList)
   -- a set that is there
   pub known : (index : ℕ) → position (nat_eq set) (map (λ (entry : ℕ × FirstList). entry.0) lists) ≡ Some index → IsDefined lists set list lists index
   known index found = met (key_at (map (λ (entry : ℕ × FirstList). entry.0) lists) set index found) refl
-
-  -- the same of an answer that is an error where the set isn't there
-  pub known_if_ok : {E : Type 0} (answer : Result ℕ E) → position (nat_eq set) (map (λ (entry : ℕ × FirstList). entry.0) lists) ≡ result_ok answer → IfOk answer (λ index. IsDefined lists set list lists index)
-  known_if_ok (Ok index) found = known index found
-  known_if_ok (Err e) found = tt
 
 -- nothing is found where no key is
 pub none_found : {A : Type 0} {o : Option A} → is_some o ≡ false → o ≡ None
@@ -73,3 +68,7 @@ found_list old set list new index own defined found =
     let key : Some set ≡ Some found.0 =
     sym (defined_key old set list new index defined) ∙ slice_get-map (λ (entry : ℕ × FirstList). entry.0) new index ∙ ap (option_map (λ (entry : ℕ × FirstList). entry.0)) found.1 in
     subst (λ (k : ℕ). lookup (nat_eq k) new ≡ Some own) (sym (same_Some set found.0 key)) found.2
+
+-- the place of a number that is found
+pub place_found : (keys : List ℕ) (set index : ℕ) → position (nat_eq set) keys ≡ Some index → position_or_len (nat_eq set) keys ≡ index
+place_found keys set index found = (cond_some (nat_lt (position_or_len (nat_eq set) keys) (length keys)) (position_or_len (nat_eq set) keys) index found).1

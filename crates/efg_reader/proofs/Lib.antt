@@ -3,6 +3,8 @@ pub mod Assembling
 pub mod Depth
 pub mod FileAnswer
 pub mod FirstGiven
+pub mod GameBuilt
+pub mod Happening
 pub mod KnownPayoffs
 pub mod KnownSet
 pub mod LinesTaken

@@ -23,7 +23,7 @@ use Rattle.efg_reader.specs.declared.first_lists.FirstList.{FirstList}
 use Rattle.efg_reader.specs.Event.{IsDraw}
 use Rattle.efg_reader.specs.Sets.{info_of, turn_of, childless, IsDefined, met, first, HasActions, IsChoice, AreSetsOf}
 
-if_ok : {A E : Type 0} (answer : Result A E) (P Q : A → Type 0) → IfOk answer P → ((x : A) → P x → Q x) → IfOk answer Q
+pub if_ok : {A E : Type 0} (answer : Result A E) (P Q : A → Type 0) → IfOk answer P → ((x : A) → P x → Q x) → IfOk answer Q
 if_ok (Ok x) P Q p weaker = weaker x p
 if_ok (Err e) P Q p weaker = p
 

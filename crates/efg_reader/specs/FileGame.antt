@@ -40,15 +40,17 @@ shape_at lines (moves who set) kids = shape.Choice (side_of who) (record { 0 = s
 abbrev pub payoffs_at : List Told → Told → List NumberView
 payoffs_at lines told = unwrap_or (first_payoffs lines told.numbers.outcome) []
 
+-- a node with what happens there and the payoffs of its outcome
+abbrev pub node_of : Shape → List NumberView → RawNode
+node_of happening pays = record {
+  shape = happening;
+  one = fraction_of (slice_index_or pays 0 nothing);
+  two = fraction_of (slice_index_or pays 1 nothing);
+}
+
 -- the node of a line with its kids
 abbrev pub node_at : List Told → Told → List ℕ → RawNode
-node_at lines told kids =
-    let pays = payoffs_at lines told in
-    record {
-      shape = shape_at lines told.numbers.mover kids;
-      one = fraction_of (slice_index_or pays 0 nothing);
-      two = fraction_of (slice_index_or pays 1 nothing);
-    }
+node_at lines told kids = node_of (shape_at lines told.numbers.mover kids) (payoffs_at lines told)
 
 -- From the last line to the first: the nodes with their kids, and where the subtrees begin that stand in a row. A node's
 -- kids are the first of the subtrees behind it. The first line of the list has the number `at`.

@@ -1,10 +1,14 @@
 -- The maps of the program as lists of what is given for each number.
 use Rattle.std.specs.Prelude.{◌≡◌, ℕ, List, [], ◌∷◌, ◌++◌, map, nat_eq, Option, Some, None, option_map, ◌==◌, Bool, if◌then◌else◌}
-use Rattle.std.specs.Map.{lookup}
+use Rattle.std.specs.List.{position_or_len}
+use Rattle.std.specs.Map.{keys_of, lookup}
 use Rattle.number_words.specs.Number.{NumberView}
 use Rattle.efg_reader.specs.declared.first_lists.FirstList.{FirstList}
 use Rattle.efg_reader.specs.declared.first_lists.OutcomePays.{OutcomePays}
+use Rattle.efg_reader.specs.declared.raw_game.Shape.{Shape}
+use Rattle.efg_reader.specs.declared.raw_game.Shape.TheVariants as shape
 use Rattle.efg_reader.specs.Entry.{Mover, draws, moves, nobody}
+use Rattle.efg_reader.specs.FileGame.{first_probs, side_of}
 use Rattle.efg_reader.specs.Told.{Listed, list_of, outcomes}
 
 -- behind what is given so far, where that has a value for the number or none
@@ -54,3 +58,10 @@ abbrev pub list_among : List (ℕ × FirstList) → List (ℕ × FirstList) → 
 list_among chance one two (draws set probs) = option_map listed_in (lookup (nat_eq set) chance)
 list_among chance one two (moves who set) = option_map listed_in (lookup (nat_eq set) (if who == 1 then one else two))
 list_among chance one two nobody = None
+
+-- what happens at a node, by the same lists
+abbrev pub shape_among : List (ℕ × FirstList) → List (ℕ × FirstList) → List (ℕ × FirstList) → Mover → List ℕ → Shape
+shape_among chance one two nobody kids = shape.Leaf
+shape_among chance one two (draws set probs) kids = shape.Chance kids (first_probs (option_map listed_in (lookup (nat_eq set) chance)))
+shape_among chance one two (moves who set) kids =
+    shape.Choice (side_of who) (record { 0 = position_or_len (nat_eq set) (keys_of (if who == 1 then one else two)) }) kids

@@ -3,11 +3,16 @@ use Rattle.std.specs.Prelude.{◌≡◌, ℕ, ◌==◌, not, List, [], ◌∷◌
 use Rattle.efg_lines.specs.declared.node_line.NodeLine.{NodeLine}
 use Rattle.efg_reader.specs.declared.builder.Builder.{Builder}
 use Rattle.efg_reader.specs.declared.events.Bare.{Bare}
+use Rattle.number_words.specs.Number.{NumberView}
+use Rattle.efg_reader.specs.Assembly.{assembled, node_with}
 use Rattle.efg_reader.specs.Entry.{Mover, draws, moves, nobody}
+use Rattle.efg_reader.specs.FileGame.{node_at}
 use Rattle.efg_reader.specs.FirstRefusal.{next_line}
 use Rattle.efg_reader.specs.Lists.{entry_in, outcome_in}
 use Rattle.efg_reader.specs.Outline.{has_begun}
-use Rattle.efg_reader.specs.Told.{Told, Listed, chance, player, sets, first_list, outcomes}
+use Rattle.efg_reader.specs.RawGame.{RawGameView}
+use Rattle.efg_reader.specs.Sets.{info_of}
+use Rattle.efg_reader.specs.Told.{Told, Listed, chance, player, sets, first_list, first_payoffs, outcomes}
 use Rattle.efg_reader.specs.TreeSoFar.{kid_count}
 
 -- a node has as many kids as the first list of its set has actions, and a leaf none
@@ -16,16 +21,18 @@ IsNamed nobody list kids = kids ≡ 0
 IsNamed (draws set probs) list kids = (first : Listed) × (list ≡ Some first) × (kids ≡ length first.names)
 IsNamed (moves who set) list kids = (first : Listed) × (list ≡ Some first) × (kids ≡ length first.names)
 
--- the lines give the set of a line's node a list
+-- the lines give the set of a line's node a list, and its outcome payoffs
 abbrev pub IsKnown : List Told → Told → Type 0
-IsKnown lines told = IsNamed told.numbers.mover (first_list lines told.numbers.mover) (kid_count lines told)
+IsKnown lines told =
+    IsNamed told.numbers.mover (first_list lines told.numbers.mover) (kid_count lines told) × ((pays : List NumberView) × (first_payoffs lines told.numbers.outcome ≡ Some pays))
 
--- the sets, the outcomes and the numbers of kids are those of these lines
+-- the sets, the outcomes and the nodes are those of these lines
 pub record HasTaken (builder : Builder) (lines : List Told) : Type 0 where
   pub sets_of_chance : map entry_in builder.chance.entries ≡ sets chance lines
   pub sets_of_one : map entry_in builder.one.entries ≡ sets (player 1) lines
   pub sets_of_two : map entry_in builder.two.entries ≡ sets (player 2) lines
   pub outcomes_are : map outcome_in builder.outcomes.entries ≡ outcomes lines
+  pub nodes_are : map node_with builder.nodes.items ≡ map (node_at lines) lines
   pub kids : map (λ (bare : Bare). bare.kids) builder.nodes.items ≡ map (kid_count lines) lines
   pub known : All (IsKnown lines) lines
   pub begun : has_begun builder.outline ≡ not (length lines == 0)
@@ -35,3 +42,7 @@ pub record IsNext (lines : List Told) (line : NodeLine) (builder : Builder) : Ty
   pub told : Told
   pub is : next_line lines line ≡ Ok told
   pub taken : HasTaken builder (lines ++ told ∷ [])
+
+-- the game of the nodes and sets that the program keeps
+abbrev pub built_game : Builder → RawGameView
+built_game builder = record { nodes = (assembled 0 builder.nodes.items).0; one = map info_of builder.one.entries; two = map info_of builder.two.entries }

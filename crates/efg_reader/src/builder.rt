@@ -1,24 +1,27 @@
 //! The rules at the nodes of a file, one line after the other.
 
-ghost use Rattle.std.specs.Prelude.{◌≡◌, ◌+◌, ◌≤◌, ◌<◌, ◌^◌, length, vec_len, map, slice_get, Some, IsTrue, IfOk, IfSome, OnOk, All, nat_eq, option_map, IfErr, None, List, if◌then◌else◌, ◌++◌, ◌∷◌, []};
-ghost use Rattle.std.specs.List.{IsDistinct};
+ghost use Rattle.std.specs.Prelude.{◌≡◌, ◌+◌, ◌≤◌, ◌<◌, ◌^◌, length, vec_len, map, slice_get, Some, IsTrue, IfOk, IfSome, OnOk, All, nat_eq, option_map, IfErr, None, ℕ, List, if◌then◌else◌, ◌++◌, ◌∷◌, []};
+ghost use Rattle.std.specs.List.{IsDistinct, position_or_len};
 ghost use Rattle.indexmap.specs.IndexMap.{get, index_map_len, keys};
 ghost use Rattle.efg_reader.specs.declared.first_lists.FirstList.{FirstList};
 ghost use Rattle.efg_lines.specs.declared.refusal.FileRefusal.TheVariants.{MissingNode};
 ghost use Rattle.efg_reader.specs.Event.{is_fit, HasChances, IsDraw};
-ghost use Rattle.number_words.specs.Number.{IsPart};
+ghost use Rattle.number_words.specs.Number.{fraction_of, IsPart};
 ghost use Rattle.efg_reader.specs.RawGame.{IsProbability};
 ghost use Rattle.corr_game.specs.declared.sides.Side.TheVariants.{One, Two};
 ghost use Rattle.efg_reader.specs.Turn.{acts_in, IsTurnOf};
 ghost use Rattle.efg_reader.specs.Above.{AreShallow};
+ghost use Rattle.efg_reader.specs.declared.events.Event.TheVariants.{Chance, Choice};
+ghost use Rattle.efg_reader.specs.Assembly.{shape_with};
+ghost use Rattle.efg_reader.specs.FileGame.{IsGameOf};
 ghost use Rattle.efg_reader.specs.FirstRefusal.{file_refusal, next_line, turn_rules, IsRefusalOf};
 ghost use Rattle.efg_reader.specs.Entry.{mover_of};
-ghost use Rattle.efg_reader.specs.Lists.{AreFirstOutcomes, entry_in, list_among, list_entry, listed_in, with_given};
+ghost use Rattle.efg_reader.specs.Lists.{AreFirstOutcomes, entry_in, list_among, list_entry, listed_in, shape_among, with_given};
 ghost use Rattle.efg_reader.specs.Outline.{above, is_whole, places};
 ghost use Rattle.efg_reader.specs.Places.{awaited};
 ghost use Rattle.efg_reader.specs.Rules.{refusal_in, action_rules, chance_rules, first_of, list_chance_rules, named_rules, place_rules, Refuses};
 ghost use Rattle.efg_reader.specs.Sets.{info_of, turn_of, AreChances, AreSetsOf, IsChoice, IsWhole};
-ghost use Rattle.efg_reader.specs.Taken.{HasTaken, IsNamed, IsNext};
+ghost use Rattle.efg_reader.specs.Taken.{built_game, HasTaken, IsNamed, IsNext};
 ghost use Rattle.efg_reader.specs.Told.{chance, list_of, player, set_list, Told};
 ghost use Rattle.efg_reader.specs.TreeSoFar.{action_count};
 
@@ -43,6 +46,7 @@ use std::alloc::{AllocError as NoMemory, Global};
 pub fn build(alloc: Global, file: RawFile) -> Result<RawGame, FileRefusal>
     ensures refused { IfErr result (λ refusal. IsRefusalOf file refusal) }
     ensures accepted { OnOk result (file_refusal file ≡ None) }
+    ensures game { IfOk result (λ game. IsGameOf file game) }
 {
     if file.players() != 2 {
         return Err(FileRefusal::Players {
@@ -179,6 +183,7 @@ impl<'a> Builder<'a> {
         ensures sets_of_one { OnOk result (map entry_in self.new.one.entries ≡ with_given (set_list (player 1) line.now (mover_of turn)) (map entry_in self.old.one.entries)) }
         ensures sets_of_two { OnOk result (map entry_in self.new.two.entries ≡ with_given (set_list (player 2) line.now (mover_of turn)) (map entry_in self.old.two.entries)) }
         ensures kids { IfOk result (λ it. IsNamed (mover_of turn) (list_among self.new.chance.entries self.new.one.entries self.new.two.entries (mover_of turn)) it.1) }
+        ensures happening { IfOk result (λ it. (kids : List ℕ) → shape_with it.0 kids ≡ shape_among self.new.chance.entries self.new.one.entries self.new.two.entries (mover_of turn) kids) }
     {
         match turn {
             Turn::Leaf => Ok((Event::Leaf, 0)),
@@ -206,6 +211,7 @@ impl<'a> Builder<'a> {
         requires one { AreSetsOf One (map turn_of self.nodes.items) self.one.entries }
         requires two { AreSetsOf Two (map turn_of self.nodes.items) self.two.entries }
         ensures refusal { Refuses result (if is_whole self.entry.outline then None else Some (MissingNode (vec_len self.entry.nodes))) }
+        ensures game { IfOk result (λ game. game ≡ built_game self.entry) }
     {
         if !self.outline.is_closed() {
             return Err(FileRefusal::MissingNode {
@@ -267,6 +273,7 @@ fn take_chance<'a>(
     ensures refusal { Refuses result (first_of (list_chance_rules node list.entry ∷ named_rules node (option_map listed_in (get nat_eq lists.old set)) (option_map listed_in list.entry) ∷ [])) }
     ensures new_lists { OnOk result (map entry_in lists.new.entries ≡ with_given (list_entry set list.entry) (map entry_in lists.old.entries)) }
     ensures kids { IfOk result (λ it. (first : FirstList) × (get nat_eq lists.new set ≡ Some first) × (it.1 ≡ length first.acts.now)) }
+    ensures event { IfOk result (λ it. (first : FirstList) × (get nat_eq lists.new set ≡ Some first) × (it.0 ≡ Chance (map fraction_of first.probs.items))) }
 {
     check_list_chances(&list, node)?;
     check_set(lists.get(&set), &list, node)?;
@@ -317,6 +324,7 @@ fn take_choice<'a>(
     ensures refusal { Refuses result (named_rules node (option_map listed_in (get nat_eq lists.old set)) (option_map listed_in list.entry)) }
     ensures new_lists { OnOk result (map entry_in lists.new.entries ≡ with_given (list_entry set list.entry) (map entry_in lists.old.entries)) }
     ensures kids { IfOk result (λ it. (first : FirstList) × (get nat_eq lists.new set ≡ Some first) × (it.1 ≡ length first.acts.now)) }
+    ensures event { IfOk result (λ it. it.0 ≡ Choice side (record { 0 = position_or_len (nat_eq set) (keys lists.new) })) }
 {
     check_set(lists.get(&set), &list, node)?;
     let index = define_set(lists, set, list)?;
@@ -328,6 +336,7 @@ fn take_choice<'a>(
 fn fracs_of(alloc: Global, numbers: &[Number]) -> Result<FracList, NoMemory>
     requires { All IsPart numbers.now }
     ensures count { IfOk result (λ fracs. length fracs ≡ length numbers.now) }
+    ensures values { IfOk result (λ fracs. fracs ≡ map fraction_of numbers.now) }
     ensures parts { IfOk result (λ fracs. All IsProbability fracs) }
 {
     let mut fracs = FracList::new(alloc);

@@ -2,7 +2,8 @@
 
 ghost use Rattle.std.specs.Prelude.{◌≡◌, ℕ, ◌+◌, ◌≤◌, ◌<◌, length, map, slice_get, Some, option_map, option_copied, nat_eq, is_some, ◌||◌, IsTrue, IfOk, OnOk};
 ghost use Rattle.std.specs.Cmp.Lexicographic.{pointwise};
-ghost use Rattle.indexmap.specs.IndexMap.{index_map_len, get};
+ghost use Rattle.indexmap.specs.IndexMap.{get, index_map_len, keys};
+ghost use Rattle.std.specs.List.{position_or_len};
 ghost use Rattle.efg_reader.specs.Lists.{entry_in, list_entry, listed_in, with_given};
 ghost use Rattle.efg_reader.specs.Rules.{refusal_in, named_rules, same_list};
 ghost use Rattle.efg_reader.specs.Sets.{IsDefined};
@@ -47,6 +48,7 @@ pub fn define_set<'a>(
     ensures within { IfOk result (λ index. index < index_map_len lists.new) }
     ensures grows { OnOk result (index_map_len lists.new ≤ index_map_len lists.old + 1) }
     ensures defined { IfOk result (λ index. IsDefined lists.old.entries set list.entry lists.new.entries index) }
+    ensures place { IfOk result (λ index. position_or_len (nat_eq set) (keys lists.new) ≡ index) }
     ensures lists { OnOk result (map entry_in lists.new.entries ≡ with_given (list_entry set list.entry) (map entry_in lists.old.entries)) }
 {
     match lists.get_index_of(&set) {

@@ -2,11 +2,14 @@
 use Rattle.std.proofs.Common.{◌≡◌, ℕ, ◌<◌, ◌≤◌, get_or, List, [], ◌∷◌, ◌++◌, Some, length, slice_get, vec_len, Vec, Global, refl, ap, sym, subst, ◌∙◌, arith}
 use Rattle.std.proofs.lemmas.Option.{slice_get_read}
 use Rattle.efg_lines.specs.declared.node_line.NodeLine.{NodeLine}
+use Rattle.efg_lines.specs.declared.refusal.FileRefusal.TheVariants.{MissingNode}
 use Rattle.efg_reader.specs.declared.events.Bare.{Bare}
 use Rattle.efg_reader.specs.FirstRefusal.{file_refusal}
 use Rattle.efg_reader.specs.Outline.{is_whole}
 use Rattle.efg_reader.specs.Rules.{Refuses}
-use Rattle.efg_reader.proofs.FileAnswer.{file_ends, file_refused}
+use Rattle.efg_reader.specs.Taken.{built_game}
+use Rattle.efg_reader.proofs.FileAnswer.{file_ends, file_refused, file_taken}
+use Rattle.efg_reader.proofs.GameBuilt.{built_is, game_answer}
 use Rattle.efg_reader.proofs.NextLine.{rest_taken}
 use Rattle.efg_reader.proofs.Refusing.{exit_file, refuses_file, refuses_if_err, refuses_if_ok, refuses_through}
 use Rattle.efg_reader.proofs.TakenMore.{count_is, whole_is}
@@ -82,3 +85,12 @@ loop-line-preserved c =
       rest = sym (rest_taken before.lines c.line-item.result c.args.file.lines c.loop-line.line-index next.told at next.is) ∙ before.rest;
       two_players = before.two_players;
     }
+
+pub returns-clause-game : goal.returns-clause-game
+returns-clause-game c =
+    let before = c.loop-line.invariant in
+    let builder = c.loop-line.builder in
+    let over = all_read c.lines-line-items.result.now c.args.file.lines c.loop-line.line-index c.lines-line-items.ensures.items c.loop-line-test.false in
+    game_answer c.finish.result c.args.file before.lines (built_game builder) (is_whole builder.outline) (MissingNode (vec_len builder.nodes)) c.finish.ensures.refusal
+    (whole_is builder before.lines before.taken before.shallow) (file_taken c.args.file before.two_players before.lines c.loop-line.line-index before.rest over)
+    c.finish.ensures.game (built_is builder before.lines before.taken)

@@ -90,12 +90,16 @@ returns-clause-taken c lines taken =
       told = told_of c.args.line.now amounts;
       is = next;
       taken =
-          taken_more c.args.self.now _ lines (told_of c.args.line.now amounts) _ taken c.len-node.result c.take_turn.new.self.nodes.items
+          taken_more c.args.self.now _ lines (told_of c.args.line.now amounts) _ taken c.len-node.result c.take_turn.new.self.nodes.items c.in_ok-pays.pays
           c.in_ok-event.ensures.sets_of_chance c.in_ok-event.ensures.sets_of_one c.in_ok-event.ensures.sets_of_two
           (payoffs ∙ ap (λ (o : Option (List NumberView)). with_given (option_map (λ (pays : List NumberView). (amounts.outcome, pays)) o) (map outcome_in c.args.self.now.outcomes.entries)) given)
           (ap (λ (v : Vec Bare Global). v.items) c.in_ok-event.ensures.nodes)
           c.in_ok-push.ensures.items
           (first_of-head (player_rules c.len-node.result amounts.mover) _ c.in_ok-event.ensures.refusal)
           c.in_ok-event.ensures.kids
+          c.in_ok-event.ensures.happening
+          c.in_ok-pays.ensures.kept
+          c.frac.ensures.value
+          c.frac-2.ensures.value
           c.in_ok-place.ensures.begun;
     }

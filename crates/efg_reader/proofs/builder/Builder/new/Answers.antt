@@ -2,6 +2,7 @@ use Rattle.std.proofs.Common.{[], map, ap}
 use Rattle.std.proofs.lemmas.List.Elements.{All-nil}
 use Rattle.corr_game.specs.declared.sides.Side.TheVariants.{One, Two}
 use Rattle.efg_reader.specs.declared.events.Bare.{Bare}
+use Rattle.efg_reader.specs.Assembly.{node_with}
 use Rattle.efg_reader.specs.Lists.{entry_in}
 use Rattle.efg_reader.specs.Taken.{IsKnown}
 use Rattle.efg_reader.specs.Told.{firsts}
@@ -21,6 +22,7 @@ returns-clause-taken c outcomes = record {
   sets_of_one = ap (map entry_in) c.new-2.ensures.empty;
   sets_of_two = ap (map entry_in) c.new-3.ensures.empty;
   outcomes_are = outcomes;
+  nodes_are = ap (map node_with) c.new-5.ensures.items;
   kids = ap (map (λ (bare : Bare). bare.kids)) c.new-5.ensures.items;
   known = All-nil (IsKnown []);
   begun = c.new-4.ensures.begun;
