@@ -48,10 +48,10 @@ behind_header (comma ∷ tokens) e = absurd (no_end tokens e)
 
 -- a whole leads on, and a number
 
-whole_on : (next : State) (w : Whole) → behind_whole next (word w.bytes) ≡ Some next
+pub whole_on : (next : State) (w : Whole) → behind_whole next (word w.bytes) ≡ Some next
 whole_on next w = rw w.of_digits refl
 
-number_on : (next : State) (n : Number) → behind_number next (word n.bytes) ≡ Some next
+pub number_on : (next : State) (n : Number) → behind_number next (word n.bytes) ≡ Some next
 number_on next n = rw n.well_formed refl
 
 by_whole : (next : State) (w : Whole) (tokens : List Lexeme) → Ends next tokens

@@ -1,5 +1,5 @@
 -- One token back: what is left of a file behind a token makes, with that token, what was left before it.
-use Rattle.std.proofs.Common.{◌≡◌, ℕ, ◌+◌, true, false, List, [], ◌∷◌, ◌++◌, map, Option, Some, None, refl, ap, sym, ◌∙◌, arith, append_assoc, append-nil}
+use Rattle.std.proofs.Common.{◌≡◌, ℕ, true, false, List, [], ◌∷◌, ◌++◌, map, Option, Some, None, refl, ap, sym, ◌∙◌, arith, append_assoc, append-nil}
 use Rattle.std.specs.Prelude.{codes}
 use Rattle.efg_token.specs.Lexeme.{Lexeme, text, brace_left, brace_right, comma, word}
 use Rattle.efg_lines.specs.declared.node_line.ActLine.{ActLine}
@@ -31,36 +31,36 @@ over-none : {A : Type 0} (o : Option A) → over o None ≡ o
 over-none None = refl
 over-none (Some x) = refl
 
-no_longer : {A : Type 0} (o : Option (List A)) → longer [] o ≡ o
+pub no_longer : {A : Type 0} (o : Option (List A)) → longer [] o ≡ o
 no_longer None = refl
 no_longer (Some items) = ap (λ xs. Some xs) (append-nil items)
 
-one_longer : {A : Type 0} (x : A) (more : List A) (o : Option (List A)) → longer (x ∷ more) o ≡ longer more (longer (x ∷ []) o)
+pub one_longer : {A : Type 0} (x : A) (more : List A) (o : Option (List A)) → longer (x ∷ more) o ≡ longer more (longer (x ∷ []) o)
 one_longer x more None = refl
 one_longer x more (Some items) = ap (λ xs. Some xs) (sym (append_assoc items (x ∷ []) more))
 
 -- a line more, then the others
-line_more : (p : Progress) (line : NodeLine) (lines : List NodeLine) → p.lines ++ line ∷ lines ≡ (p.lines ++ line ∷ []) ++ lines
+pub line_more : (p : Progress) (line : NodeLine) (lines : List NodeLine) → p.lines ++ line ∷ lines ≡ (p.lines ++ line ∷ []) ++ lines
 line_more p line lines = sym (append_assoc p.lines (line ∷ []) lines)
 
 -- a line of which only the letter had been read is the line with all its parts
 
-begun_chance : (name : List ℕ) (s : Set (Act mover.Chance)) (o : Outcome)
+pub begun_chance : (name : List ℕ) (s : Set (Act mover.Chance)) (o : Outcome)
     → line_of (with_outcome o (with_set mover.Chance s (begun letter.Chance))) ≡ node_kept (chance name s o)
 begun_chance name s o = simp over-none refl
 
-begun_personal : (name : List ℕ) (w : Whole) (s : Set (Act mover.Player)) (o : Outcome)
+pub begun_personal : (name : List ℕ) (w : Whole) (s : Set (Act mover.Player)) (o : Outcome)
     → line_of (with_outcome o (with_set mover.Player s (record (begun letter.Player) {
       player =
           w.bytes;
     }))) ≡ node_kept (personal name w s o)
 begun_personal name w s o = simp over-none refl
 
-begun_terminal : (name : List ℕ) (o : Outcome) → line_of (with_outcome o (begun letter.Leaf)) ≡ node_kept (terminal name o)
+pub begun_terminal : (name : List ℕ) (o : Outcome) → line_of (with_outcome o (begun letter.Leaf)) ≡ node_kept (terminal name o)
 begun_terminal name o = simp over-none refl
 
 -- the file where these lines come behind the lines of p
-with_lines : (p : Progress) {a b : List NodeLine} → a ≡ b
+pub with_lines : (p : Progress) {a b : List NodeLine} → a ≡ b
     → ◌≡◌ {A = FileView} (record { players = p.players; lines = a }) (record { players = p.players; lines = b })
 with_lines p same = ap (λ lines. record { players = p.players; lines = lines }) same
 
@@ -95,7 +95,7 @@ begins_behind_name p = record {
 }
 
 -- with this line before the others
-with_line : (p : Progress) {a b : NodeLine} (nodes : List Node) → a ≡ b
+pub with_line : (p : Progress) {a b : NodeLine} (nodes : List Node) → a ≡ b
     → ◌≡◌ {A = FileView} (record { players = p.players; lines = p.lines ++ a ∷ map node_kept nodes })
     (record { players = p.players; lines = p.lines ++ b ∷ map node_kept nodes })
 with_line p nodes same = ap (λ line. record { players = p.players; lines = p.lines ++ line ∷ map node_kept nodes }) same
@@ -180,11 +180,11 @@ set_back m p brace_right next e = absurd (cc)
 set_back m p comma next e = absurd (cc)
 
 -- with these actions, or payoffs, in the line that is read
-with_acts : (p : Progress) (o : Outcome) (nodes : List Node) {a b : Option (List ActLine)} → a ≡ b
+pub with_acts : (p : Progress) (o : Outcome) (nodes : List Node) {a b : Option (List ActLine)} → a ≡ b
     → ended p (with_outcome o (record p.draft { acts = a })) nodes ≡ ended p (with_outcome o (record p.draft { acts = b })) nodes
 with_acts p o nodes same = ap (λ acts. ended p (with_outcome o (record p.draft { acts = acts })) nodes) same
 
-with_pays : (p : Progress) (nodes : List Node) {a b : Option (List (List ℕ))} → a ≡ b
+pub with_pays : (p : Progress) (nodes : List Node) {a b : Option (List (List ℕ))} → a ≡ b
     → ended p (record p.draft { pays = a }) nodes ≡ ended p (record p.draft { pays = b }) nodes
 with_pays p nodes same = ap (λ pays. ended p (record p.draft { pays = pays }) nodes) same
 

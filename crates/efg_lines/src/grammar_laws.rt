@@ -4,7 +4,8 @@ ghost use Rattle.std.specs.Prelude.{◌≡◌, ℕ, List, Some, true};
 ghost use Rattle.efg_token.specs.Lexeme.{Lexeme};
 ghost use Rattle.efg_lines.specs.declared.state.State.{State};
 ghost use Rattle.efg_lines.specs.declared.state.State.TheVariants.{Format};
-ghost use Rattle.efg_lines.specs.FileTokens.{HasFile, StopsAt};
+ghost use Rattle.efg_lines.specs.File.{FileView};
+ghost use Rattle.efg_lines.specs.FileTokens.{HasFile, IsFileOf, StopsAt};
 ghost use Rattle.efg_lines.specs.Grammar.{IsFile, BeginsFile};
 ghost use Rattle.efg_lines.specs.Machine.{led, accepts};
 
@@ -24,4 +25,9 @@ pub fn every_state_can_be_completed()
 pub fn no_file_goes_on_in_one_place()
     ensures no_file { (bytes : List ℕ) (at : ℕ) → StopsAt bytes at → HasFile bytes → ⊥ }
     ensures one_place { (bytes : List ℕ) (a b : ℕ) → StopsAt bytes a → StopsAt bytes b → a ≡ b }
+{}
+
+/// Bytes are one file at most, as far as a file is kept.
+pub fn bytes_are_one_file()
+    ensures { (bytes : List ℕ) (a b : FileView) → IsFileOf bytes a → IsFileOf bytes b → a ≡ b }
 {}

@@ -16,7 +16,8 @@ mod state;
 
 pub use byte_list::ByteList;
 pub use grammar_laws::{
-    every_state_can_be_completed, no_file_goes_on_in_one_place, the_machine_accepts_files,
+    bytes_are_one_file, every_state_can_be_completed, no_file_goes_on_in_one_place,
+    the_machine_accepts_files,
 };
 pub use lines::read_lines;
 pub use node_line::{ActLine, ActLines, LineKind, NodeLine, PayWords};
