@@ -77,14 +77,14 @@ ends_of f ends = record { input = ends.input; known = ends.known; ending = endin
 pub too_long_still : {notions : Notions} {bytes input text : List ℕ} {kind : Status} → 2 ^ 22 < length bytes → 2 ^ 22 < length input → SolveAnswer notions bytes text kind → SolveAnswer notions input text kind
 too_long_still long longer (too_long h is_text is_status) = too_long longer is_text is_status
 too_long_still long longer (one_node h pay form is_text is_status) = absurd (omega arith)
-too_long_still long longer (refused general refusal of_input is_text is_status) = absurd (omega (arith, general.short))
-too_long_still long longer (reported general report ranges blocks is_text has_status) = absurd (omega (arith, general.short))
+too_long_still long longer (refused general refusal first is_text is_status) = absurd (omega (arith, general.short))
+too_long_still long longer (reported general report on is_text has_status) = absurd (omega (arith, general.short))
 
 pub report_too_long_still : {bytes input text : List ℕ} {kind : Status} → 2 ^ 30 < length bytes → 2 ^ 30 < length input → CheckAnswer bytes text kind → CheckAnswer input text kind
 report_too_long_still long longer (checked.too_long h is_text is_status) = checked.too_long longer is_text is_status
 report_too_long_still long longer (checked.no_report h at within is_text is_status) = absurd (omega arith)
-report_too_long_still long longer (checked.refused h refusal of_input is_text is_status) = absurd (omega arith)
-report_too_long_still long longer (checked.judged h report ranges g p held given is_verdict is_text is_status) = absurd (omega arith)
+report_too_long_still long longer (checked.refused h place report read refusal first is_text is_status) = absurd (omega arith)
+report_too_long_still long longer (checked.judged h place report read g p game given is_verdict is_text is_status) = absurd (omega arith)
 
 -- an ending for which nothing was read
 pub ends_made : (P : List ℕ → Status → Type 0) (left before after : Option (List ℕ)) (status : Status) → Ending P before after status → Ends (λ input. P) left before after status

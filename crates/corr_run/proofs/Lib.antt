@@ -1,5 +1,7 @@
 pub mod Commands
 pub mod Endings
+pub mod Errors
+pub mod FirstRefusals
 pub mod Ordering
 pub mod Reading
 pub mod Scales

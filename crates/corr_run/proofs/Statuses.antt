@@ -6,7 +6,7 @@ use Rattle.command_words.specs.declared.commands.Notions.{Notions}
 use Rattle.game_gen.specs.declared.kinds.Kind.{Kind}
 use Rattle.report_form.specs.declared.reports.NamedBlock.{NamedBlock}
 use Rattle.corr_run.specs.declared.status.Status.{Status}
-use Rattle.corr_run.specs.declared.status.Status.TheVariants.{Solved, Written, Yes, No, Refused, TooWide, Usage}
+use Rattle.corr_run.specs.declared.status.Status.TheVariants.{Solved, Written, Refused, TooWide, Usage}
 use Rattle.corr_run.specs.CheckAnswer as checked
 use Rattle.corr_run.specs.CheckAnswer.{CheckAnswer, verdict_status}
 use Rattle.corr_run.specs.Ending.{IsWhole}
@@ -38,8 +38,8 @@ blocks_answered blocks status (inr wide) = by_status status TooWide (tt, λ e. a
 pub check_answered : (input text : List ℕ) (status : Status) → CheckAnswer input text status → IsAnswered status
 check_answered input text status (checked.too_long h is_text is_status) = by_status status Refused is_refused is_status
 check_answered input text status (checked.no_report h at within is_text is_status) = by_status status Refused is_refused is_status
-check_answered input text status (checked.refused h refusal of_input is_text is_status) = by_status status Refused is_refused is_status
-check_answered input text status (checked.judged h report ranges g p held given is_verdict is_text is_status) = by_status status (verdict_status given) (verdict_answered given) is_status
+check_answered input text status (checked.refused h place report read refusal first is_text is_status) = by_status status Refused is_refused is_status
+check_answered input text status (checked.judged h place report read g p game given is_verdict is_text is_status) = by_status status (verdict_status given) (verdict_answered given) is_status
 
 pub gen_answered : (kind : Kind) (n seed : ℕ) (text : List ℕ) (status : Status) → GenAnswer kind n seed text status → IsAnswered status
 gen_answered kind n seed text status (made.written h is_text is_status) = by_status status Written (tt, λ e. absurd (cc e)) is_status
@@ -48,5 +48,5 @@ gen_answered kind n seed text status (made.too_large h is_text is_status) = by_s
 pub work_answered : (kind : Kind) (n seed : ℕ) (notions : Notions) (text : List ℕ) (status : Status) → WorkAnswer kind n seed notions text status → IsAnswered status
 work_answered kind n seed notions text status (worked.too_large h is_text is_status) = by_status status Refused is_refused is_status
 work_answered kind n seed notions text status (worked.too_long h longer is_text is_status) = by_status status Refused is_refused is_status
-work_answered kind n seed notions text status (worked.refused h refusal of_input is_text is_status) = by_status status Refused is_refused is_status
-work_answered kind n seed notions text status (worked.summed h report ranges blocks is_text has_status) = blocks_answered report.blocks status has_status
+work_answered kind n seed notions text status (worked.refused h refusal first is_text is_status) = by_status status Refused is_refused is_status
+work_answered kind n seed notions text status (worked.summed h report on is_text has_status) = blocks_answered report.blocks status has_status

@@ -1,5 +1,5 @@
 -- What a run answers: a text and a status, by the command that the words mean.
-use Rattle.std.specs.Prelude.{◌≡◌, ℕ, ◌+◌, ◌^◌, ◌≤◌, List}
+use Rattle.std.specs.Prelude.{◌≡◌, ℕ, ◌+◌, ◌^◌, List}
 use Rattle.command_words.specs.declared.commands.Command.{Command}
 use Rattle.command_words.specs.declared.commands.Command.TheVariants.{Solve, Check, Gen, Work}
 use Rattle.command_words.specs.Words.{Means, MeansNothing}

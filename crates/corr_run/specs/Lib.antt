@@ -2,12 +2,14 @@ pub mod Answer
 pub mod CheckAnswer
 pub mod Ending
 pub mod ExitNumber
+pub mod FirstRefusal
+pub mod GameOfFile
 pub mod GenAnswer
 pub mod Input
 pub mod Lines
 pub mod OneNode
 pub mod Refusals
 pub mod Reports
-pub mod Scaling
 pub mod SolveAnswer
+pub mod SolvedReport
 pub mod WorkAnswer

@@ -1,9 +1,10 @@
 -- Reports on a file, by the notions that were selected.
-use Rattle.std.specs.Prelude.{◌≡◌, ◌⊎◌, ℕ, ◌≤◌, Bool, true, false, List, map, All}
+use Rattle.std.specs.Prelude.{◌≡◌, ◌⊎◌, ℕ, ◌≤◌, Bool, true, false, List, [], ◌∷◌, map, All}
 use Rattle.corr_game.specs.declared.notions.Notion.{Notion}
 use Rattle.corr_game.specs.Game.{GameView}
 use Rattle.connected_pairs.specs.Connected.{PairsView}
 use Rattle.incentive_rows.specs.Size.{HasSize}
+use Rattle.notion_solve.specs.Shown.{IsShownFor}
 use Rattle.report_form.specs.declared.reports.Block.{Block}
 use Rattle.report_form.specs.declared.reports.Block.TheVariants.{Found, Empty, TooWide}
 use Rattle.report_form.specs.declared.reports.NamedBlock.{NamedBlock}
@@ -11,15 +12,16 @@ use Rattle.report_form.specs.Ranges.{IsBlock}
 use Rattle.command_words.specs.declared.commands.Notions.{Notions}
 use Rattle.corr_run.specs.declared.status.Status.{Status}
 use Rattle.corr_run.specs.declared.status.Status.TheVariants as status
-use Rattle.command_words.specs.Selection.{selected, selects}
+use Rattle.command_words.specs.Selection.{selected}
 
 -- a notion's program has at most 2048 rows and 8192 columns
 abbrev pub FitsProgram : GameView → PairsView → Notion → Type 0
 FitsProgram g p notion = (rows columns : ℕ) × HasSize g p notion rows columns × (rows ≤ 2048) × (columns ≤ 8192)
 
--- so has that of each selected notion
-abbrev pub FitPrograms : GameView → PairsView → Notions → Type 0
-FitPrograms g p notions = (notion : Notion) → selects notions notion ≡ true → FitsProgram g p notion
+-- so has that of each of these notions
+abbrev pub FitPrograms : GameView → PairsView → List Notion → Type 0
+FitPrograms g p [] = Unit {0}
+FitPrograms g p (notion ∷ rest) = FitsProgram g p notion × FitPrograms g p rest
 
 -- the notions of blocks
 abbrev pub notions_of : List NamedBlock → List Notion
@@ -32,6 +34,10 @@ AreWhole blocks = All (λ (named : NamedBlock). IsBlock named.block) blocks
 -- the blocks are those of the selected notions, in order
 abbrev pub AreBlocksOf : Notions → List NamedBlock → Type 0
 AreBlocksOf notions blocks = notions_of blocks ≡ selected notions
+
+-- each block is shown of its notion's program
+abbrev pub AreShown : GameView → PairsView → List NamedBlock → Type 0
+AreShown g p blocks = All (λ (named : NamedBlock). IsShownFor g p named.notion named.block) blocks
 
 -- whether a block says that a tableau is too wide
 abbrev pub is_too_wide : Block → Bool

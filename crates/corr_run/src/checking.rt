@@ -1,10 +1,11 @@
 // The answer to a report with its game's file behind it.
 ghost use Rattle.std.specs.Prelude.{◌≡◌, ◌^◌, ◌≤◌, drop, IfOk, length, MatchOption, true};
-ghost use Rattle.cert_check.specs.Fits.{AllFit};
 ghost use Rattle.connected_pairs.specs.Connected.{IsPairsOf};
-ghost use Rattle.efg_lines.specs.FileTokens.{HasFile};
+ghost use Rattle.report_form.specs.Ranges.{IsReport};
 ghost use Rattle.corr_run.specs.CheckAnswer.{CheckAnswer, verdict_status};
-ghost use Rattle.corr_run.specs.Refusals.{IsOfInput};
+ghost use Rattle.corr_run.specs.FirstRefusal.{IsOfSizes};
+ghost use Rattle.corr_run.specs.GameOfFile.{IsGameOfBytes};
+ghost use Rattle.corr_run.specs.Reports.{FitPrograms, notions_of};
 
 use crate::Status;
 use crate::answer::{Answer, refused};
@@ -33,12 +34,12 @@ fn status_of(verdict: Verdict) -> Status
 /// The refusal of the first notion of these blocks whose program is too large.
 fn report_size_refusal(ready: &Ready, blocks: &BlockList) -> Option<Refusal>
     requires { IsPairsOf ready.now.game ready.now.pairs }
-    ensures { MatchOption result (AllFit ready.now.game ready.now.pairs blocks.now) IsOfInput }
+    ensures { MatchOption result (FitPrograms ready.now.game ready.now.pairs (notions_of blocks.now)) (IsOfSizes ready.now.game ready.now.pairs (notions_of blocks.now)) }
 {
     for k in 0..blocks.len() {
-        let refusal = size_refusal(&ready.game, &ready.pairs, true, blocks.at(k).notion);
-        if refusal.is_some() {
-            return refusal;
+        let notion = blocks.at(k).notion;
+        if let Some(refusal) = size_refusal(&ready.game, &ready.pairs, true, notion) {
+            return Some(refusal);
         }
     }
     None
@@ -54,8 +55,7 @@ fn judged(
 ) -> Result<Answer, AllocError>
     requires short { length input.now ≤ 2 ^ 30 }
     requires within { place ≤ length input.now }
-    requires accepted { HasFile (drop place input.now) }
-    requires whose { IsPairsOf ready.now.game ready.now.pairs }
+    requires game { IsGameOfBytes (drop place input.now) ready.now.game ready.now.pairs }
     ensures { IfOk result (λ answer. CheckAnswer input.now answer.text.items answer.status) }
 {
     if let Some(refusal) = report_size_refusal(ready, report.blocks()) {
@@ -79,6 +79,7 @@ fn report_answer(
 ) -> Result<Answer, AllocError>
     requires short { length input.now ≤ 2 ^ 30 }
     requires within { place ≤ length input.now }
+    requires ranges { IsReport report.now }
     ensures { IfOk result (λ answer. CheckAnswer input.now answer.text.items answer.status) }
 {
     match prepare(alloc, input.split_at(place).1) {

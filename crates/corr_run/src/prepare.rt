@@ -1,17 +1,19 @@
 // From the bytes of a file to a game that may be solved.
 ghost use Rattle.std.specs.Prelude.{◌≡◌, ◌<◌, ◌≤◌, ◌^◌, length, IfErr, IfOk};
-ghost use Rattle.efg_lines.specs.FileTokens.{HasFile};
+ghost use Rattle.corr_game.specs.Game.{sets_of};
+ghost use Rattle.report_form.specs.declared.refusals.Refusal.TheVariants.{AtNode};
 ghost use Rattle.tree_recall.specs.LastMove.{IsRecallOf};
 ghost use Rattle.connected_pairs.specs.Connected.{IsPairsOf};
-ghost use Rattle.triangle_test.specs.Triangle.{IsTriangle};
-ghost use Rattle.triangle_test.specs.declared.triangles.Quad.{Quad as Four};
-ghost use Rattle.corr_run.specs.Scaling.{IsScaledFromSome};
-ghost use Rattle.corr_run.specs.Refusals.{IsOfInput, IsReadyEnd};
+ghost use Rattle.triangle_test.specs.Triangle.{IsLeastTriangle};
+ghost use Rattle.corr_run.specs.declared.prepare.ReadyEnd.TheVariants.{NoMemory, Refused};
+ghost use Rattle.corr_run.specs.FirstRefusal.{HasFileNumber, IsOfFile, IsOfRecall, IsOfTriangle};
+ghost use Rattle.corr_run.specs.GameOfFile.{IsGameOfBytes, SayGame, SayRecalled, SayScaled};
+ghost use Rattle.corr_run.specs.Refusals.{end_of, line_refusal, scale_refusal, IfRefused};
 
 use connected_pairs::Pairs;
-use corr_game::{Game, Side};
+use corr_game::{Game, SetId, Side};
 use efg_lines::{FileRefusal, read_lines};
-use efg_reader::build;
+use efg_reader::{RawGame, build};
 use game_scale::{ScaleRefusal, scale};
 use report_form::{NodeRule, Refusal};
 use sequences::Seqs;
@@ -34,7 +36,7 @@ pub enum ReadyEnd {
 }
 
 impl From<AllocError> for ReadyEnd {
-    ghost from_gives = { λ _ end. IsReadyEnd end };
+    ghost from_gives = { λ _ end. end ≡ NoMemory };
 
     fn from(_: AllocError) -> ReadyEnd {
         ReadyEnd::NoMemory
@@ -42,7 +44,7 @@ impl From<AllocError> for ReadyEnd {
 }
 
 impl<T: Drop> From<AllocFailed<T>> for ReadyEnd {
-    ghost from_gives = { λ _ end. IsReadyEnd end };
+    ghost from_gives = { λ _ end. end ≡ NoMemory };
 
     fn from(_: AllocFailed<T>) -> ReadyEnd {
         ReadyEnd::NoMemory
@@ -50,7 +52,7 @@ impl<T: Drop> From<AllocFailed<T>> for ReadyEnd {
 }
 
 impl From<FileRefusal> for ReadyEnd {
-    ghost from_gives = { λ _ end. IsReadyEnd end };
+    ghost from_gives = { λ refusal end. end ≡ end_of (line_refusal refusal) };
 
     fn from(refusal: FileRefusal) -> ReadyEnd {
         match refusal {
@@ -78,7 +80,7 @@ impl From<FileRefusal> for ReadyEnd {
 }
 
 impl From<ScaleRefusal> for ReadyEnd {
-    ghost from_gives = { λ _ end. IsReadyEnd end };
+    ghost from_gives = { λ refusal end. end ≡ end_of (scale_refusal refusal) };
 
     fn from(refusal: ScaleRefusal) -> ReadyEnd {
         match refusal {
@@ -93,7 +95,7 @@ impl From<ScaleRefusal> for ReadyEnd {
 }
 
 fn at_node(name: NodeRule, node: u32) -> ReadyEnd
-    ensures { IsReadyEnd result }
+    ensures { result ≡ Refused (AtNode name node) }
 {
     ReadyEnd::Refused(Refusal::AtNode { name, node })
 }
@@ -102,26 +104,57 @@ fn at_node(name: NodeRule, node: u32) -> ReadyEnd
 /// the triangle. Sets in a refusal have the file's numbers.
 pub fn prepare(alloc: Global, bytes: &[u8]) -> Result<Ready, ReadyEnd>
     requires { length bytes.now ≤ 2 ^ 30 }
-    ensures ready { IfOk result (λ ready. IsPairsOf ready.game ready.pairs) }
-    ensures no_triangle { IfOk result (λ ready. (quad : Four) → IsTriangle ready.pairs quad → ⊥) }
-    ensures scaled { IfOk result (λ ready. IsScaledFromSome ready.game) }
-    ensures accepted { IfOk result (λ ready. HasFile bytes.now) }
-    ensures refused { IfErr result IsReadyEnd }
+    ensures ready { IfOk result (λ ready. IsGameOfBytes bytes.now ready.game ready.pairs) }
+    ensures refused { IfErr result (IfRefused (IsOfFile bytes.now)) }
 {
-    let raw = build(alloc, read_lines(alloc, bytes)?)?;
-    let game = scale(alloc, raw)?;
-    let recalled = recalled_moves(alloc, &game)?;
-    let seqs = Seqs::of(alloc, &game, recalled)?;
-    let pairs = Pairs::of(alloc, &game, seqs)?;
-    match triangle(&game, &pairs) {
-        Some(quad) => Err(triangle_end(&game, &pairs, &quad)),
-        None => Ok(Ready { game, pairs }),
+    let ready = paired_game(alloc, bytes)?;
+    match triangle(&ready.game, &ready.pairs) {
+        Some(quad) => {
+            let refusal = triangle_refusal(&ready.game, &ready.pairs, &quad);
+            Err(ReadyEnd::Refused(refusal))
+        }
+        None => Ok(ready),
     }
 }
 
+/// The game that the lines say.
+fn read_game(alloc: Global, bytes: &[u8]) -> Result<RawGame, ReadyEnd>
+    requires { length bytes.now ≤ 2 ^ 30 }
+    ensures said { IfOk result (SayGame bytes.now) }
+    ensures refused { IfErr result (IfRefused (IsOfFile bytes.now)) }
+{
+    let file = read_lines(alloc, bytes)?;
+    let raw = build(alloc, file)?;
+    Ok(raw)
+}
+
+/// The same with whole amounts.
+fn scaled_game(alloc: Global, bytes: &[u8]) -> Result<Game, ReadyEnd>
+    requires { length bytes.now ≤ 2 ^ 30 }
+    ensures scaled { IfOk result (SayScaled bytes.now) }
+    ensures refused { IfErr result (IfRefused (IsOfFile bytes.now)) }
+{
+    let raw = read_game(alloc, bytes)?;
+    let game = scale(alloc, raw)?;
+    Ok(game)
+}
+
+/// The same with its relevant pairs, where both players recall their moves.
+fn paired_game(alloc: Global, bytes: &[u8]) -> Result<Ready, ReadyEnd>
+    requires { length bytes.now ≤ 2 ^ 30 }
+    ensures recalled { IfOk result (λ ready. SayRecalled bytes.now ready.game ready.pairs) }
+    ensures refused { IfErr result (IfRefused (IsOfFile bytes.now)) }
+{
+    let game = scaled_game(alloc, bytes)?;
+    let recalled = recalled_moves(alloc, &game)?;
+    let seqs = Seqs::of(alloc, &game, recalled)?;
+    let pairs = Pairs::of(alloc, &game, seqs)?;
+    Ok(Ready { game, pairs })
+}
+
 fn recalled_moves(alloc: Global, game: &Game) -> Result<Recalled, ReadyEnd>
-    ensures recalled { IfOk result (λ recalled. IsRecallOf game.now recalled) }
-    ensures refused { IfErr result IsReadyEnd }
+    ensures recalled { IfOk result (IsRecallOf game.now) }
+    ensures refused { IfErr result (IfRefused (IsOfRecall game.now)) }
 {
     match recall(alloc, game) {
         Ok(recalled) => Ok(recalled),
@@ -134,7 +167,7 @@ fn recalled_moves(alloc: Global, game: &Game) -> Result<Recalled, ReadyEnd>
             },
         ) => Err(ReadyEnd::Refused(Refusal::Forgets {
             side,
-            set: game.set(side, set).file,
+            set: file_number(game, side, set),
             first,
             second,
         })),
@@ -142,15 +175,23 @@ fn recalled_moves(alloc: Global, game: &Game) -> Result<Recalled, ReadyEnd>
     }
 }
 
-fn triangle_end(game: &Game, pairs: &Pairs, quad: &Quad) -> ReadyEnd
-    requires whose { IsPairsOf game.now pairs.now }
-    requires triangle { IsTriangle pairs.now quad.now }
-    ensures { IsReadyEnd result }
+/// The number that a set has in the file.
+fn file_number(game: &Game, side: Side, set: SetId) -> u32
+    requires { set.0 < length (sets_of side game.now) }
+    ensures { HasFileNumber game.now side set result }
 {
-    ReadyEnd::Refused(Refusal::Triangle {
-        one_a: game.set(Side::One, quad.one_a).file,
-        one_b: game.set(Side::One, quad.one_b).file,
-        two_a: game.set(Side::Two, quad.two_a).file,
-        two_b: game.set(Side::Two, quad.two_b).file,
-    })
+    game.set(side, set).file
+}
+
+fn triangle_refusal(game: &Game, pairs: &Pairs, quad: &Quad) -> Refusal
+    requires whose { IsPairsOf game.now pairs.now }
+    requires triangle { IsLeastTriangle pairs.now quad.now }
+    ensures { IsOfTriangle game.now pairs.now result }
+{
+    Refusal::Triangle {
+        one_a: file_number(game, Side::One, quad.one_a),
+        one_b: file_number(game, Side::One, quad.one_b),
+        two_a: file_number(game, Side::Two, quad.two_a),
+        two_b: file_number(game, Side::Two, quad.two_b),
+    }
 }

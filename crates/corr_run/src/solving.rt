@@ -1,13 +1,16 @@
 // From a file to a report or a refusal.
-ghost use Rattle.std.specs.Prelude.{◌≡◌, ◌≤◌, ◌^◌, ◌++◌, ◌∷◌, [], ℕ, true, cond, length, map, MatchOption, IfOk, OnOk, All};
+ghost use Rattle.std.specs.Prelude.{◌≡◌, ◌≤◌, ◌^◌, ◌++◌, ◌∷◌, [], ℕ, true, cond, length, map, MatchOption, IfErr, IfOk, OnOk, All};
 ghost use Rattle.either.specs.Either.{MatchEither};
 ghost use Rattle.corr_game.specs.declared.notions.Notion.TheVariants.{Efce, Efcce, Nfcce};
 ghost use Rattle.connected_pairs.specs.Connected.{IsPairsOf};
 ghost use Rattle.triangle_test.specs.Triangle.{IsTriangle};
 ghost use Rattle.triangle_test.specs.declared.triangles.Quad.{Quad};
 ghost use Rattle.report_form.specs.Ranges.{IsBlock, IsReport};
-ghost use Rattle.corr_run.specs.Refusals.{IsOfInput};
-ghost use Rattle.corr_run.specs.Reports.{FitsProgram, FitPrograms, AreBlocksOf, AreWhole, notions_of};
+ghost use Rattle.cert_check.specs.Scales.{HasScales};
+ghost use Rattle.corr_run.specs.FirstRefusal.{IsFirstRefusal, IsGameFor, IsOfSizes};
+ghost use Rattle.corr_run.specs.Refusals.{IfRefused};
+ghost use Rattle.corr_run.specs.Reports.{FitPrograms, AreBlocksOf, AreShown, AreWhole, notions_of};
+ghost use Rattle.corr_run.specs.SolvedReport.{IsReportOn};
 ghost use Rattle.command_words.specs.Selection.{SelectsSome, selected};
 
 use crate::prepare::{Ready, ReadyEnd, prepare};
@@ -33,7 +36,7 @@ pub fn size_refusal(
     notion: Notion,
 ) -> Option<Refusal>
     requires { IsPairsOf game.now pairs.now }
-    ensures { MatchOption result (is_selected ≡ true → FitsProgram game.now pairs.now notion) IsOfInput }
+    ensures { MatchOption result (FitPrograms game.now pairs.now (cond is_selected (notion ∷ []) [])) (IsOfSizes game.now pairs.now (cond is_selected (notion ∷ []) [])) }
 {
     if !is_selected {
         return None;
@@ -52,7 +55,7 @@ pub fn size_refusal(
 /// The refusal of the first selected notion whose program is too large.
 fn first_size_refusal(game: &Game, pairs: &Pairs, notions: Notions) -> Option<Refusal>
     requires { IsPairsOf game.now pairs.now }
-    ensures { MatchOption result (FitPrograms game.now pairs.now notions) IsOfInput }
+    ensures { MatchOption result (FitPrograms game.now pairs.now (selected notions)) (IsOfSizes game.now pairs.now (selected notions)) }
 {
     let efce = size_refusal(game, pairs, notions.efce, Notion::Efce);
     if efce.is_some() {
@@ -75,9 +78,11 @@ fn add_block(
 ) -> Result<(), NoMemory>
     requires whose { IsPairsOf ready.now.game ready.now.pairs }
     requires no_triangle { (quad : Quad) → IsTriangle ready.now.pairs quad → ⊥ }
-    requires size { is_selected ≡ true → FitsProgram ready.now.game ready.now.pairs notion }
+    requires size { FitPrograms ready.now.game ready.now.pairs (cond is_selected (notion ∷ []) []) }
     requires before { AreWhole blocks.old }
+    requires shown_before { AreShown ready.now.game ready.now.pairs blocks.old }
     ensures whole { OnOk result (AreWhole blocks.new) }
+    ensures shown { OnOk result (AreShown ready.now.game ready.now.pairs blocks.new) }
     ensures notions { OnOk result (notions_of blocks.new ≡ notions_of blocks.old ++ cond is_selected (notion ∷ []) []) }
 {
     if !is_selected {
@@ -92,8 +97,9 @@ fn add_block(
 fn blocks_of(alloc: Global, ready: &Ready, notions: Notions) -> Result<BlockList, NoMemory>
     requires whose { IsPairsOf ready.now.game ready.now.pairs }
     requires no_triangle { (quad : Quad) → IsTriangle ready.now.pairs quad → ⊥ }
-    requires sizes { FitPrograms ready.now.game ready.now.pairs notions }
-    ensures whole { IfOk result (λ blocks. AreWhole blocks) }
+    requires sizes { FitPrograms ready.now.game ready.now.pairs (selected notions) }
+    ensures whole { IfOk result AreWhole }
+    ensures shown { IfOk result (AreShown ready.now.game ready.now.pairs) }
     ensures notions { IfOk result (λ blocks. notions_of blocks ≡ selected notions) }
 {
     let mut blocks = BlockList::new(alloc);
@@ -107,7 +113,9 @@ fn blocks_of(alloc: Global, ready: &Ready, notions: Notions) -> Result<BlockList
 fn report_of(game: &Game, blocks: BlockList) -> Report
     requires whole { AreWhole blocks }
     requires selected { (notions : Notions) × SelectsSome notions × (notions_of blocks ≡ selected notions) }
-    ensures blocks { result.blocks ≡ blocks }
+    ensures same { result.blocks ≡ blocks }
+    ensures scales { HasScales game.now result }
+    ensures ranges { IsReport result }
 {
     Report::of(game.scale(Side::One), game.scale(Side::Two), blocks)
 }
@@ -120,16 +128,27 @@ pub fn solve_file(
 ) -> Result<Either<Refusal, Report>, NoMemory>
     requires short { length bytes.now ≤ 2 ^ 30 }
     requires some { SelectsSome notions }
-    ensures { IfOk result (λ it. MatchEither it IsOfInput (λ report. IsReport report × AreBlocksOf notions report.blocks)) }
+    ensures { IfOk result (λ it. MatchEither it (IsFirstRefusal (selected notions) bytes.now) (IsReportOn notions bytes.now)) }
 {
-    let ready = match prepare(alloc, bytes) {
-        Ok(ready) => ready,
-        Err(ReadyEnd::Refused(refusal)) => return Ok(Left(refusal)),
-        Err(ReadyEnd::NoMemory) => return Err(NoMemory),
-    };
-    if let Some(refusal) = first_size_refusal(&ready.game, &ready.pairs, notions) {
-        return Ok(Left(refusal));
+    match fitting_game(alloc, bytes, notions) {
+        Ok(ready) => {
+            let blocks = blocks_of(alloc, &ready, notions)?;
+            Ok(Right(report_of(&ready.game, blocks)))
+        }
+        Err(ReadyEnd::Refused(refusal)) => Ok(Left(refusal)),
+        Err(ReadyEnd::NoMemory) => Err(NoMemory),
     }
-    let blocks = blocks_of(alloc, &ready, notions)?;
-    Ok(Right(report_of(&ready.game, blocks)))
+}
+
+/// The game of a file, whose selected notions' programs fit.
+fn fitting_game(alloc: Global, bytes: &[u8], notions: Notions) -> Result<Ready, ReadyEnd>
+    requires { length bytes.now ≤ 2 ^ 30 }
+    ensures game { IfOk result (λ ready. IsGameFor (selected notions) bytes.now ready.game ready.pairs) }
+    ensures refused { IfErr result (IfRefused (IsFirstRefusal (selected notions) bytes.now)) }
+{
+    let ready = prepare(alloc, bytes)?;
+    match first_size_refusal(&ready.game, &ready.pairs, notions) {
+        Some(refusal) => Err(ReadyEnd::Refused(refusal)),
+        None => Ok(ready),
+    }
 }

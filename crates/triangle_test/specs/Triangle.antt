@@ -1,5 +1,5 @@
 -- A triangle of information sets (Farina and Sandholm 2020).
-use Rattle.std.specs.Prelude.{◌≡◌, ℕ, true}
+use Rattle.std.specs.Prelude.{◌≡◌, ℕ, ◌<◌, true}
 use Rattle.sequences.specs.Number.{SideView, IsOwn}
 use Rattle.connected_pairs.specs.Connected.{PairsView, are_connected}
 use Rattle.triangle_test.specs.declared.triangles.Quad.{Quad}
@@ -43,3 +43,30 @@ IsMet p one_a one_b two_b = (are_connected p one_b two_b ≡ true) × AreSibling
 -- the last set of a triangle whose other three are these
 abbrev pub IsLast : PairsView → ℕ → ℕ → ℕ → ℕ → Type 0
 IsLast p one_a one_b two_a two_b = (are_connected p one_a two_b ≡ true) × (are_connected p one_b two_b ≡ true) × AreSiblings p.seqs.two two_a two_b
+
+-- no triangle is of these four sets
+abbrev pub NoneOf : PairsView → ℕ → ℕ → ℕ → ℕ → Type 0
+NoneOf p one_a one_b two_a two_b = (q : Quad) → q.one_a.0 ≡ one_a → q.one_b.0 ≡ one_b → q.two_a.0 ≡ two_a → q.two_b.0 ≡ two_b → IsTriangle p q → ⊥
+
+-- a triangle with these three sets, whose last set is the least of all
+pub record IsLeastOver (p : PairsView) (one_a one_b two_a : ℕ) (q : Quad) : Type 0 where
+  pub first : q.one_a.0 ≡ one_a
+  pub second : q.one_b.0 ≡ one_b
+  pub third : q.two_a.0 ≡ two_a
+  pub triangle : IsTriangle p q
+  pub none_before : (k : ℕ) → k < q.two_b.0 → NoneOf p one_a one_b two_a k
+
+-- a triangle with these two sets of player 1, least by the sets of player 2 from the left
+pub record IsLeastWith (p : PairsView) (one_a one_b : ℕ) (q : Quad) : Type 0 where
+  pub least : IsLeastOver p one_a one_b q.two_a.0 q
+  pub none_before : (k : ℕ) → k < q.two_a.0 → NoneOver p one_a one_b k
+
+-- a triangle with this first set, least by its other sets from the left
+pub record IsLeastFrom (p : PairsView) (one_a : ℕ) (q : Quad) : Type 0 where
+  pub least : IsLeastWith p one_a q.one_b.0 q
+  pub none_before : (k : ℕ) → k < q.one_b.0 → NoneWith p one_a k
+
+-- the least triangle by its sets' numbers from the left
+pub record IsLeastTriangle (p : PairsView) (q : Quad) : Type 0 where
+  pub least : IsLeastFrom p q.one_a.0 q
+  pub none_before : (k : ℕ) → k < q.one_a.0 → NoneFrom p k

@@ -1,7 +1,7 @@
 ghost use Rattle.std.specs.Prelude.{◌≡◌, ◌<◌, ◌↔◌, ℕ, IfSome, IsTrue, None, length, false, true};
 ghost use Rattle.sequences.specs.Number.{side_of};
 ghost use Rattle.connected_pairs.specs.Connected.{IsPairsOf, are_connected};
-ghost use Rattle.triangle_test.specs.Triangle.{AreSiblings, IsLast, IsMet, IsPartner, IsTriangle, NoneAcross, NoneFrom, NoneOver, NoneWith};
+ghost use Rattle.triangle_test.specs.Triangle.{AreSiblings, IsLast, IsLeastFrom, IsLeastOver, IsLeastTriangle, IsLeastWith, IsMet, IsPartner, IsTriangle, NoneAcross, NoneFrom, NoneOf, NoneOver, NoneWith};
 
 use connected_pairs::Pairs;
 use corr_game::{Game, SetId, Side};
@@ -18,13 +18,12 @@ pub struct Quad {
 /// The least triangle, compared by set numbers from the left, or none.
 pub fn triangle(game: &Game, pairs: &Pairs) -> Option<Quad>
     requires { IsPairsOf game.now pairs.now }
-    ensures some { IfSome result (λ quad. IsTriangle pairs.now quad) }
+    ensures some { IfSome result (IsLeastTriangle pairs.now) }
     ensures none { result ≡ None → (quad : Quad) → IsTriangle pairs.now quad → ⊥ }
 {
     for one_a in 0..set_count(game, pairs, Side::One) {
-        let quad = triangle_from(game, pairs, SetId(one_a));
-        if quad.is_some() {
-            return quad;
+        if let Some(quad) = triangle_from(game, pairs, SetId(one_a)) {
+            return Some(quad);
         }
     }
     None
@@ -34,16 +33,15 @@ pub fn triangle(game: &Game, pairs: &Pairs) -> Option<Quad>
 fn triangle_from(game: &Game, pairs: &Pairs, one_a: SetId) -> Option<Quad>
     requires of { IsPairsOf game.now pairs.now }
     requires one_in { one_a.0 < length pairs.now.seqs.one.places }
-    ensures some { IfSome result (λ quad. IsTriangle pairs.now quad) }
+    ensures some { IfSome result (IsLeastFrom pairs.now one_a.0) }
     ensures none { result ≡ None → NoneFrom pairs.now one_a.0 }
 {
     if !begins_one(game, pairs, one_a) {
         return None;
     }
     for one_b in 0..set_count(game, pairs, Side::One) {
-        let quad = triangle_with(game, pairs, one_a, SetId(one_b));
-        if quad.is_some() {
-            return quad;
+        if let Some(quad) = triangle_with(game, pairs, one_a, SetId(one_b)) {
+            return Some(quad);
         }
     }
     None
@@ -54,7 +52,7 @@ fn triangle_with(game: &Game, pairs: &Pairs, one_a: SetId, one_b: SetId) -> Opti
     requires of { IsPairsOf game.now pairs.now }
     requires a_in { one_a.0 < length pairs.now.seqs.one.places }
     requires b_in { one_b.0 < length pairs.now.seqs.one.places }
-    ensures some { IfSome result (λ quad. IsTriangle pairs.now quad) }
+    ensures some { IfSome result (IsLeastWith pairs.now one_a.0 one_b.0) }
     ensures none { result ≡ None → NoneWith pairs.now one_a.0 one_b.0 }
 {
     if !siblings(pairs, Side::One, one_a, one_b) {
@@ -64,9 +62,8 @@ fn triangle_with(game: &Game, pairs: &Pairs, one_a: SetId, one_b: SetId) -> Opti
         return None;
     }
     for two_a in 0..set_count(game, pairs, Side::Two) {
-        let quad = triangle_over(game, pairs, one_a, one_b, SetId(two_a));
-        if quad.is_some() {
-            return quad;
+        if let Some(quad) = triangle_over(game, pairs, one_a, one_b, SetId(two_a)) {
+            return Some(quad);
         }
     }
     None
@@ -85,7 +82,7 @@ fn triangle_over(
     requires b_in { one_b.0 < length pairs.now.seqs.one.places }
     requires two_in { two_a.0 < length pairs.now.seqs.two.places }
     requires apart { AreSiblings pairs.now.seqs.one one_a.0 one_b.0 }
-    ensures some { IfSome result (λ quad. IsTriangle pairs.now quad) }
+    ensures some { IfSome result (IsLeastOver pairs.now one_a.0 one_b.0 two_a.0) }
     ensures none { result ≡ None → NoneOver pairs.now one_a.0 one_b.0 two_a.0 }
 {
     if !pairs.connected(one_a, two_a) {

@@ -14,12 +14,12 @@ returns-then-bytes-gt-SOLVE_LIMIT c =
 pub returns-in_ok-answer-in-Left : goal.returns-in_ok-answer-in-Left
 returns-in_ok-answer-in-Left c =
     let short : length (game_text c.args.game.0 c.args.game.1 c.args.game.2) ≤ 2 ^ 22 = rw (← c.requires.bytes) c.if-bytes-gt-SOLVE_LIMIT.false in
-    let of_input = rw c.in-Left.is at c.in_ok-refusal.ensures in
-    refused (record { within = c.requires.within; short = short }) c.in-Left.refusal of_input c.in_ok-answer-in-Left.ensures.text c.in_ok-answer-in-Left.ensures.status
+    let first = rw (c.in-Left.is, c.requires.bytes) at c.in_ok-refusal.ensures in
+    refused (record { within = c.requires.within; short = short }) c.in-Left.refusal first c.in_ok-answer-in-Left.ensures.text c.in_ok-answer-in-Left.ensures.status
 
 pub returns-in_ok-answer-in-Right : goal.returns-in_ok-answer-in-Right
 returns-in_ok-answer-in-Right c =
     let short : length (game_text c.args.game.0 c.args.game.1 c.args.game.2) ≤ 2 ^ 22 = rw (← c.requires.bytes) c.if-bytes-gt-SOLVE_LIMIT.false in
-    let report = rw c.in-Right.is at c.in_ok-refusal.ensures in
-    summed (record { within = c.requires.within; short = short }) c.in-Right.report report.0 report.1
+    let on = rw (c.in-Right.is, c.requires.bytes) at c.in_ok-refusal.ensures in
+    summed (record { within = c.requires.within; short = short }) c.in-Right.report on
     (rw c.blocks-in-Right.ensures.blocks at c.in_ok-answer-in-Right.ensures.text) (rw c.blocks-in-Right.ensures.blocks at c.in_ok-answer-in-Right.ensures.status)
