@@ -83,7 +83,7 @@ pub record IsPassed (f : ℕ → ℕ) (m c k : ℕ) : Type 0 where
   pub here : count f k ≡ c
   pub behind : ((k < m) × (count f (suc k) ≡ suc c)) ⊎ ((k ≡ m) × (count f m ≡ c))
 
-grows : (f : ℕ → ℕ) (k : ℕ) → (count f (suc k) ≡ count f k) ⊎ (count f (suc k) ≡ suc (count f k))
+pub grows : (f : ℕ → ℕ) (k : ℕ) → (count f (suc k) ≡ count f k) ⊎ (count f (suc k) ≡ suc (count f k))
 grows f k = by (change_cases (f k) (f (suc k)))
   where
     by : ((f k ≡ f (suc k)) × (change (f k) (f (suc k)) ≡ 0)) ⊎ ((f k ≢ f (suc k)) × (change (f k) (f (suc k)) ≡ 1))

@@ -19,7 +19,7 @@ same_side sides j k x y e at_x at_y = same_Some x y (sym at_x ∙ (ap (λ (n : �
 
 -- ---- the axes stand at sides apart
 
-three_sides : (sides : List SideRow) → HasAxes sides → 3 ≤ length sides
+pub three_sides : (sides : List SideRow) → HasAxes sides → 3 ≤ length sides
 three_sides sides axes =
     let (i, x, at_x, x_up) = axes.up in
     let (j, y, at_y, y_left) = axes.left in

@@ -1,5 +1,6 @@
--- The belt of sides round a polygon: directions in the order of their angles, each at a corner that lies furthest in it.
-use Rattle.std.specs.Prelude.{◌≡◌, ◌≢◌, ◌⊎◌, ℕ, suc, ◌+◌, ◌<◌, ◌≤◌, List, [], ◌∷◌, length, slice_get, Some, ℤ, pos, negsuc, ◌==◌, if◌then◌else◌}
+-- The belt of sides round a polygon: directions in the order of their angles, each at the corner furthest in it.
+use Rattle.std.specs.Prelude.{◌≡◌, ◌≢◌, ◌⊎◌, ℕ, suc, ◌+◌, ◌<◌, ◌≤◌, List, [], ◌∷◌}
+use Rattle.std.specs.Prelude.{length, slice_get, Some, ℤ, pos, negsuc, ◌==◌, if◌then◌else◌}
 use Rattle.std.specs.declared.cmp.Ordering.TheVariants.{Less}
 use Rattle.plane_hull.specs.Angle.{angle_cmp}
 use Rattle.plane_hull.specs.declared.directions.Dir.{Dir}
@@ -37,7 +38,7 @@ pub record TurnsOn (number : ℕ) (from to : Dir) : Type 0 where
 abbrev pub IsNext : ℕ → ℕ → ℕ → Type 0
 IsNext count from to = ((from + 1 < count) × (to ≡ from + 1)) ⊎ ((from + 1 ≡ count) × (to ≡ 0))
 
--- from the side with this number to the one behind it: at one corner to a greater angle, or in one direction to the next corner
+-- a side stands behind the one with this number: at its corner with a greater angle, or in its direction at the next
 abbrev pub MayFollow : ℕ → ℕ → SideRow → SideRow → Type 0
 MayFollow corners number from to =
     ((from.corner ≡ to.corner) × TurnsOn number from.dir to.dir)
@@ -66,8 +67,8 @@ pub record HasAxes (sides : List SideRow) : Type 0 where
 -- behind the last side the first may follow
 abbrev pub ClosesUp : ℕ → List SideRow → Type 0
 ClosesUp corners sides =
-    (k : ℕ) (last first : SideRow) → suc k ≡ length sides → slice_get sides k ≡ Some last → slice_get sides 0 ≡ Some first
-    → MayFollow corners k last first
+    (k : ℕ) (last first : SideRow) → suc k ≡ length sides
+    → slice_get sides k ≡ Some last → slice_get sides 0 ≡ Some first → MayFollow corners k last first
 
 -- how often the corner changes from side to side, where this corner stands before the first
 abbrev pub changes_from : ℕ → List SideRow → ℕ
@@ -88,15 +89,18 @@ pub record GoesRoundOnce (corners : ℕ) (sides : List SideRow) : Type 0 where
 -- the side right behind the one with this number, or the one right before it, has this direction
 abbrev pub HasTwin : List SideRow → ℕ → Dir → Type 0
 HasTwin sides number dir =
-    (k : ℕ) × (other : SideRow) × ((k ≡ suc number) ⊎ (number ≡ suc k)) × (slice_get sides k ≡ Some other) × (other.dir ≡ dir)
+    (k : ℕ) × (other : SideRow) × ((k ≡ suc number) ⊎ (number ≡ suc k))
+    × (slice_get sides k ≡ Some other) × (other.dir ≡ dir)
 
 -- no direction stands at more than two sides, nor at two of one corner; any but an axis stands at two in a row
 pub record DirectionsPairUp (sides : List SideRow) : Type 0 where
   pub at_most_two : (i j k : ℕ) (x y z : SideRow) → i < j → j < k
-      → slice_get sides i ≡ Some x → slice_get sides j ≡ Some y → slice_get sides k ≡ Some z → x.dir ≡ y.dir → y.dir ≡ z.dir → ⊥
+      → slice_get sides i ≡ Some x → slice_get sides j ≡ Some y → slice_get sides k ≡ Some z
+      → x.dir ≡ y.dir → y.dir ≡ z.dir → ⊥
   pub corners_differ : (i j : ℕ) (x y : SideRow) → i < j
       → slice_get sides i ≡ Some x → slice_get sides j ≡ Some y → x.dir ≡ y.dir → x.corner ≢ y.corner
-  pub two_in_a_row : (k : ℕ) (side : SideRow) → slice_get sides k ≡ Some side → IsAxis side.dir ⊎ HasTwin sides k side.dir
+  pub two_in_a_row : (k : ℕ) (side : SideRow) → slice_get sides k ≡ Some side
+      → IsAxis side.dir ⊎ HasTwin sides k side.dir
 
 -- two sides stand at one corner, or at two whose points differ
 abbrev pub PointsDiffer : List Point → SideRow → SideRow → Type 0
@@ -105,8 +109,8 @@ PointsDiffer points from to = from.corner ≢ to.corner → slice_get points fro
 -- where the corner changes from a side to the one behind it, the two points differ
 abbrev pub CornersPart : List Point → List SideRow → Type 0
 CornersPart points sides =
-    (j k : ℕ) (from to : SideRow) → IsNext (length sides) j k → slice_get sides j ≡ Some from → slice_get sides k ≡ Some to
-    → PointsDiffer points from to
+    (j k : ℕ) (from to : SideRow) → IsNext (length sides) j k
+    → slice_get sides j ≡ Some from → slice_get sides k ≡ Some to → PointsDiffer points from to
 
 -- the sides are a belt round these corners
 pub record IsBelt (points : List Point) (sides : List SideRow) : Type 0 where
@@ -117,3 +121,12 @@ pub record IsBelt (points : List Point) (sides : List SideRow) : Type 0 where
   pub once : GoesRoundOnce (length points) sides
   pub pairs : DirectionsPairUp sides
   pub parts : CornersPart points sides
+
+-- the belt of a point: right, up, left and down at its one corner
+pub record AreFourAxes (sides : List SideRow) : Type 0 where
+  pub four : length sides ≡ 4
+  pub right : (side : SideRow) → slice_get sides 0 ≡ Some side → IsRight side.dir
+  pub up : (side : SideRow) → slice_get sides 1 ≡ Some side → IsDirection (pos 0) (pos 1) side.dir
+  pub left : (side : SideRow) → slice_get sides 2 ≡ Some side → IsDirection (negsuc 0) (pos 0) side.dir
+  pub down : (side : SideRow) → slice_get sides 3 ≡ Some side → IsDirection (pos 0) (negsuc 0) side.dir
+  pub corner : (k : ℕ) (side : SideRow) → slice_get sides k ≡ Some side → side.corner ≡ 0

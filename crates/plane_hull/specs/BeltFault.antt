@@ -4,7 +4,7 @@ use Rattle.plane_hull.specs.Belt.{Begins, IsBelt, MayFollow, PointsDiffer}
 use Rattle.plane_hull.specs.declared.sides.Point.{Point}
 use Rattle.plane_hull.specs.declared.sides.SideRow.{SideRow}
 
--- the first side begins the belt, and any other one follows the side before it, at another point where the corner changes
+-- the first side begins the belt, any other one follows the side before it, at another point where the corner changes
 abbrev pub IsInTurn : List Point → List SideRow → ℕ → Type 0
 IsInTurn points sides zero = Begins sides
 IsInTurn points sides (suc k) =

@@ -1,5 +1,6 @@
-ghost use Rattle.std.specs.Prelude.{◌≡◌, ◌≢◌, ◌⊎◌, ◌↔◌, ◌<◌, ◌≤◌, ◌+◌, ℕ, length, slice_get, Some, IfErr, IsOk, IsTrue, pos};
-ghost use Rattle.plane_hull.specs.Belt.{GoesRoundOnce, HasAxes, HasDirection, IsAxis, IsBelt, IsDirection, IsNext, MayFollow, PointsDiffer, StandAtCorners, TurnsOn};
+ghost use Rattle.std.specs.Prelude.{◌≡◌, ◌↔◌, ◌<◌, ◌≤◌, ℕ, length, IfErr, IsOk, IsTrue};
+ghost use Rattle.plane_hull.specs.Belt.{GoesRoundOnce, HasAxes, HasDirection, IsAxis, IsBelt, IsDirection};
+ghost use Rattle.plane_hull.specs.Belt.{IsNext, MayFollow, PointsDiffer, StandAtCorners, TurnsOn};
 ghost use Rattle.plane_hull.specs.BeltFault.{IsFaultOf, IsInTurn};
 ghost use Rattle.plane_hull.specs.Round.{IsWhole, PairsUp, PairsWith};
 
@@ -65,7 +66,7 @@ fn before_of(count: usize, number: usize) -> usize
     if number == 0 { count - 1 } else { number - 1 }
 }
 
-/// Whether the belt may go from one side to the next: it turns at a corner, or goes on to the next corner along an edge.
+/// Whether the belt may go from one side to the next: it turns at a corner, or goes on to the next one along an edge.
 fn follows(corners: usize, number: usize, from: &SideRow, to: &SideRow) -> bool
     requires { from.now.corner < corners }
     ensures { IsTrue result ↔ MayFollow corners number from.now to.now }
@@ -88,7 +89,8 @@ fn points_differ(points: &[Point], from: &SideRow, to: &SideRow) -> bool
 fn may_follow(points: &[Point], number: usize, from: &SideRow, to: &SideRow) -> bool
     requires from_at { from.now.corner < length points.now }
     requires to_at { to.now.corner < length points.now }
-    ensures { IsTrue result ↔ (MayFollow (length points.now) number from.now to.now × PointsDiffer points.now from.now to.now) }
+    ensures { IsTrue result
+        ↔ (MayFollow (length points.now) number from.now to.now × PointsDiffer points.now from.now to.now) }
 {
     follows(points.len(), number, from, to) && points_differ(points, from, to)
 }
