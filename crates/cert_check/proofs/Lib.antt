@@ -1,4 +1,6 @@
 mod CertifiedSides
+mod Faultless
+mod FirstBroken
 mod ColumnSums
 mod RestOfRow
 mod Sizes

@@ -1,8 +1,12 @@
 pub mod Bounds
 pub mod Certified
+pub mod CornerRules
 pub mod Fits
 pub mod Planned
 pub mod Products
 pub mod Reach
+pub mod Rules
 pub mod Scales
+pub mod SideRules
 pub mod Triggers
+pub mod Truth

@@ -11,6 +11,7 @@ mod corners;
 mod deviations;
 mod faults;
 mod gains;
+mod laws;
 mod multipliers;
 mod planned;
 mod programs;
@@ -19,4 +20,8 @@ mod sums;
 mod verdicts;
 
 pub use blocks::check;
+pub use laws::{
+    corners_break_one_rule_first, true_blocks_have_no_fault, true_multipliers_show_empty,
+    true_sides_are_certified,
+};
 pub use verdicts::{Cause, Item, Verdict};
