@@ -18,7 +18,10 @@ fn places_of_syntax(rt: HostRuntime) {
     ];
     for (bytes, at) in rows {
         assert!(rt; bytes.len() < 1000);
-        assert_eq!(rt; read_lines(rt.alloc(), bytes).err(), Some(FileRefusal::Syntax { at }));
+        assert_eq!(rt;
+            read_lines(rt.alloc(), bytes).err(),
+            Some(FileRefusal::Syntax { at })
+        );
     }
 }
 
@@ -30,7 +33,12 @@ fn shape_of(line: &NodeLine) -> (&[u8], &[u8], Option<usize>, Option<usize>) {
         LineKind::Leaf => (line.outcome.as_slice(), None),
     };
     let listed = line.pays.as_ref().map(|words| words.len());
-    (set, line.outcome.as_slice(), acts.map(|acts| acts.len()), listed)
+    (
+        set,
+        line.outcome.as_slice(),
+        acts.map(|acts| acts.len()),
+        listed,
+    )
 }
 
 #[test]
