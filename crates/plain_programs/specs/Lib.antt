@@ -1,4 +1,5 @@
 pub mod Fronts
+pub mod Moderate
 pub mod PaidWith
 pub mod ReducedAt
 pub mod Samples

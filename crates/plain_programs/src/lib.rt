@@ -8,8 +8,10 @@
 //! - `is_equilibrium`: whether a list of pairs of plans is an equilibrium list of a notion and a slack
 //! - `payoff_point`: what such a list pays on average
 //! - `is_solution`: whether numbers solve a linear program
+//! - `certifies`, `shows_empty`: whether multipliers certify a direction, or show that a program has no solution
 #![tactic(auto)]
 
+mod certificates;
 mod deviations;
 mod equilibria;
 mod grafts;
@@ -19,6 +21,7 @@ mod samples;
 mod solutions;
 mod sums;
 
+pub use certificates::{are_moderate, certifies, is_moderate, shows_empty};
 pub use equilibria::{Slack, are_entries, is_equilibrium};
 pub use grafts::{graft, is_below};
 pub use plans::{is_reduced, leads};
@@ -29,3 +32,6 @@ pub use sums::are_weights;
 
 #[cfg(test)]
 mod spreads;
+
+#[cfg(test)]
+mod shown;
