@@ -5,6 +5,7 @@ use Rattle.corr_game.specs.declared.sides.Side.{Side}
 use Rattle.corr_game.specs.Game.{GameView, IsGame}
 use Rattle.efg_lines.specs.File.{FileView}
 use Rattle.efg_lines.specs.FileTokens.{IsFileOf}
+use Rattle.efg_reader.specs.FileGame.{IsGameOf}
 use Rattle.efg_reader.specs.FirstRefusal.{file_refusal}
 use Rattle.efg_reader.specs.RawGame.{RawGameView}
 use Rattle.game_scale.specs.Scaled.{IsScaled}
@@ -12,11 +13,12 @@ use Rattle.tree_recall.specs.OwnSequence.{HasRecall}
 use Rattle.triangle_test.specs.Triangle.{IsTriangle}
 use Rattle.triangle_test.specs.declared.triangles.Quad.{Quad}
 
--- the bytes are a file whose lines break no rule, and this game was made of it
+-- the bytes are a file whose lines break no rule, and this is the game that the lines say
 pub record SayGame (bytes : List ℕ) (raw : RawGameView) : Type 0 where
   pub file : FileView
   pub read : IsFileOf bytes file
   pub no_refusal : file_refusal file ≡ None
+  pub game : IsGameOf file raw
 
 -- so they do, and this is that game with whole amounts within the limits
 pub record SayScaled (bytes : List ℕ) (g : GameView) : Type 0 where
