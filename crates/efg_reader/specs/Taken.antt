@@ -1,18 +1,21 @@
 -- What the program keeps of the lines so far.
 use Rattle.std.specs.Prelude.{◌≡◌, ℕ, ◌==◌, not, List, [], ◌∷◌, ◌++◌, length, map, All, Option, Some, Ok}
 use Rattle.efg_lines.specs.declared.node_line.NodeLine.{NodeLine}
+use Rattle.efg_lines.specs.declared.node_line.LineKind.{LineKind}
 use Rattle.efg_reader.specs.declared.builder.Builder.{Builder}
 use Rattle.efg_reader.specs.declared.events.Bare.{Bare}
 use Rattle.number_words.specs.Number.{NumberView}
+use Rattle.efg_reader.specs.declared.first_lists.FirstList.{FirstList}
+use Rattle.efg_reader.specs.declared.raw_game.Shape.{Shape}
 use Rattle.efg_reader.specs.Assembly.{assembled, node_with}
 use Rattle.efg_reader.specs.Entry.{Mover, draws, moves, nobody}
 use Rattle.efg_reader.specs.FileGame.{node_at}
 use Rattle.efg_reader.specs.FirstRefusal.{next_line}
-use Rattle.efg_reader.specs.Lists.{entry_in, outcome_in}
+use Rattle.efg_reader.specs.Lists.{entry_in, list_among, outcome_in, shape_among, with_given}
 use Rattle.efg_reader.specs.Outline.{has_begun}
 use Rattle.efg_reader.specs.RawGame.{RawGameView}
 use Rattle.efg_reader.specs.Sets.{info_of}
-use Rattle.efg_reader.specs.Told.{Told, Listed, chance, player, sets, first_list, first_payoffs, outcomes}
+use Rattle.efg_reader.specs.Told.{Told, Listed, Owner, chance, player, set_list, sets, first_list, first_payoffs, outcomes}
 use Rattle.efg_reader.specs.TreeSoFar.{kid_count}
 
 -- a node has as many kids as the first list of its set has actions, and a leaf none
@@ -25,6 +28,18 @@ IsNamed (moves who set) list kids = (first : Listed) × (list ≡ Some first) ×
 abbrev pub IsKnown : List Told → Told → Type 0
 IsKnown lines told =
     IsNamed told.numbers.mover (first_list lines told.numbers.mover) (kid_count lines told) × ((pays : List NumberView) × (first_payoffs lines told.numbers.outcome ≡ Some pays))
+
+-- the list that the program keeps for the set that a line names
+abbrev pub kept_list : Builder → Mover → Option Listed
+kept_list builder mover = list_among builder.chance.entries builder.one.entries builder.two.entries mover
+
+-- what happens at a node by what the program keeps
+abbrev pub kept_shape : Builder → Mover → List ℕ → Shape
+kept_shape builder mover kids = shape_among builder.chance.entries builder.one.entries builder.two.entries mover kids
+
+-- the sets of an owner among these lists are those so far and the one that a line gives a list
+abbrev pub AreWith : Owner → LineKind → Mover → List (ℕ × FirstList) → List (ℕ × FirstList) → Type 0
+AreWith owner line mover old new = map entry_in new ≡ with_given (set_list owner line mover) (map entry_in old)
 
 -- the sets, the outcomes and the nodes are those of these lines
 pub record HasTaken (builder : Builder) (lines : List Told) : Type 0 where

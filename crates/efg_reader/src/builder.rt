@@ -16,13 +16,13 @@ ghost use Rattle.efg_reader.specs.Assembly.{shape_with};
 ghost use Rattle.efg_reader.specs.FileGame.{IsGameOf};
 ghost use Rattle.efg_reader.specs.FirstRefusal.{file_refusal, next_line, turn_rules, IsRefusalOf};
 ghost use Rattle.efg_reader.specs.Entry.{mover_of};
-ghost use Rattle.efg_reader.specs.Lists.{AreFirstOutcomes, entry_in, list_among, list_entry, listed_in, shape_among, with_given};
+ghost use Rattle.efg_reader.specs.Lists.{AreFirstOutcomes, entry_in, list_entry, listed_in, with_given};
 ghost use Rattle.efg_reader.specs.Outline.{above, is_whole, places};
 ghost use Rattle.efg_reader.specs.Places.{awaited};
 ghost use Rattle.efg_reader.specs.Rules.{refusal_in, action_rules, chance_rules, first_of, list_chance_rules, named_rules, place_rules, Refuses};
 ghost use Rattle.efg_reader.specs.Sets.{info_of, turn_of, AreChances, AreSetsOf, IsChoice, IsWhole};
-ghost use Rattle.efg_reader.specs.Taken.{built_game, HasTaken, IsNamed, IsNext};
-ghost use Rattle.efg_reader.specs.Told.{chance, list_of, player, set_list, Told};
+ghost use Rattle.efg_reader.specs.Taken.{built_game, kept_list, kept_shape, AreWith, HasTaken, IsNamed, IsNext};
+ghost use Rattle.efg_reader.specs.Told.{chance, list_of, player, Told};
 ghost use Rattle.efg_reader.specs.TreeSoFar.{action_count};
 
 use crate::entry::{Entry, Turn, read_entry};
@@ -178,12 +178,12 @@ impl<'a> Builder<'a> {
         ensures two { IfOk result (λ it. AreSetsOf Two (map turn_of self.old.nodes.items ++ it ∷ []) self.new.two.entries) }
         ensures chance { OnOk result (AreChances self.new.chance.entries) }
         ensures outcomes { self.new.outcomes ≡ self.old.outcomes }
-        ensures refusal { Refuses result (turn_rules node line.now (mover_of turn) (list_among self.old.chance.entries self.old.one.entries self.old.two.entries (mover_of turn))) }
-        ensures sets_of_chance { OnOk result (map entry_in self.new.chance.entries ≡ with_given (set_list chance line.now (mover_of turn)) (map entry_in self.old.chance.entries)) }
-        ensures sets_of_one { OnOk result (map entry_in self.new.one.entries ≡ with_given (set_list (player 1) line.now (mover_of turn)) (map entry_in self.old.one.entries)) }
-        ensures sets_of_two { OnOk result (map entry_in self.new.two.entries ≡ with_given (set_list (player 2) line.now (mover_of turn)) (map entry_in self.old.two.entries)) }
-        ensures kids { IfOk result (λ it. IsNamed (mover_of turn) (list_among self.new.chance.entries self.new.one.entries self.new.two.entries (mover_of turn)) it.1) }
-        ensures happening { IfOk result (λ it. (kids : List ℕ) → shape_with it.0 kids ≡ shape_among self.new.chance.entries self.new.one.entries self.new.two.entries (mover_of turn) kids) }
+        ensures refusal { Refuses result (turn_rules node line.now (mover_of turn) (kept_list self.old (mover_of turn))) }
+        ensures sets_of_chance { OnOk result (AreWith chance line.now (mover_of turn) self.old.chance.entries self.new.chance.entries) }
+        ensures sets_of_one { OnOk result (AreWith (player 1) line.now (mover_of turn) self.old.one.entries self.new.one.entries) }
+        ensures sets_of_two { OnOk result (AreWith (player 2) line.now (mover_of turn) self.old.two.entries self.new.two.entries) }
+        ensures kids { IfOk result (λ it. IsNamed (mover_of turn) (kept_list self.new (mover_of turn)) it.1) }
+        ensures happening { IfOk result (λ it. (kids : List ℕ) → shape_with it.0 kids ≡ kept_shape self.new (mover_of turn) kids) }
     {
         match turn {
             Turn::Leaf => Ok((Event::Leaf, 0)),
