@@ -1,5 +1,5 @@
--- A player's first sets are those before which the player doesn't move. With perfect recall, below a node of one of them no set is
--- another first set, nor below one: the earliest own move on the way there is at that node's set.
+-- A player's first sets are those before which the player doesn't move. With perfect recall, below a node of one of them
+-- no set is another first set, nor below one: the earliest own move on the way there is at that node's set.
 use Rattle.std.proofs.Common.{◌≡◌, ◌≢◌, ℕ, inl, inr, Bool, true, false, nat_eq, ◌||◌, List, [], ◌∷◌, Option, Some, None}
 use Rattle.std.proofs.Common.{refl, sym, ap, subst, ◌∙◌}
 use Rattle.std.proofs.lemmas.Bool.{cases_Bool, eqb-true}

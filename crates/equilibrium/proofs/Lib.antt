@@ -4,6 +4,7 @@ pub mod Coming
 pub mod Descents
 pub mod FirstSets
 pub mod Mixing
+pub mod MoreSlack
 pub mod Nesting
 pub mod NodesBelow
 pub mod Splitting

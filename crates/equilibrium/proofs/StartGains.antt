@@ -1,5 +1,6 @@
--- Leaving at the start of play for a full choice gains what leaving for it at the first sets gains together: at a node of a first set the
--- graft at that set plays the full choice from there down, and every other graft leaves the plan as it is; above, gains add up.
+-- Leaving at the start of play for a full choice gains what leaving for it at the first sets gains together: at a node of
+-- a first set the graft at that set plays the full choice from there down, and every other graft leaves the plan as it is;
+-- above, gains add up.
 use Rattle.std.proofs.Common.{◌≡◌, ◌≢◌, ℕ, zero, suc, ◌+◌, ◌<◌, ◌≤◌, inl, inr, Bool, true, false, cond, nat_eq, List, [], ◌∷◌}
 use Rattle.std.proofs.Common.{length, Option, Some, None, slice_get, ℤ, pos, ◌+ℤ◌, ◌-ℤ◌, ◌*ℤ◌, ◌≤ℤ◌, refl, sym, ap, ap₂, ◌∙◌, arith}
 use Rattle.std.proofs.lemmas.Bool.{eq-eqb, or_left, or_right}

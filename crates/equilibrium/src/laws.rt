@@ -1,5 +1,5 @@
 // Laws of equilibrium, as functions that do nothing.
-ghost use Rattle.std.specs.Prelude.{◌≡◌, ◌↔◌, ℕ, ◌<◌, ◌≤◌, ◌++◌, List, Option, Some, true, false, length, slice_get, slice_index};
+ghost use Rattle.std.specs.Prelude.{◌≡◌, ◌↔◌, ℕ, ◌*◌, ◌<◌, ◌≤◌, ◌++◌, List, Option, Some, true, false, length, slice_get, slice_index};
 ghost use Rattle.corr_game.specs.declared.notions.Notion.{Notion};
 ghost use Rattle.corr_game.specs.declared.notions.Notion.TheVariants.{Efce, Efcce, Nfcce};
 ghost use Rattle.corr_game.specs.declared.nodes.SetId.{SetId};
@@ -55,7 +55,14 @@ pub fn told_sets_are_reached()
 /// With perfect recall an extensive-form coarse correlated equilibrium is a normal-form coarse one.
 pub fn leaving_at_first_sets_is_leaving_at_the_start()
     ensures { (g : GameView) (list : List Entry) → IsGame g → ((side : Side) → HasRecall g side)
-        → IsEquilibriumList Efcce g (record { num = 0; den = 1 }) list → IsEquilibriumList Nfcce g (record { num = 0; den = 1 }) list }
+        → IsEquilibriumList Efcce g (record { num = 0; den = 1 }) list
+        → IsEquilibriumList Nfcce g (record { num = 0; den = 1 }) list }
+{}
+
+/// What is an equilibrium list for a slack is one for any greater slack.
+pub fn greater_slacks_allow_more()
+    ensures { (notion : Notion) (g : GameView) (list : List Entry) (a b : Slack) → IsGame g → 1 ≤ a.den
+        → a.num * b.den ≤ b.num * a.den → IsEquilibriumList notion g a list → IsEquilibriumList notion g b list }
 {}
 
 /// Two equilibrium lists, one behind the other, are one.
