@@ -91,7 +91,9 @@ pub fn shows_empty(lp: &Lp, multipliers: &NumList) -> bool
     requires moderate_multipliers { AreModerate multipliers.now }
     ensures { IsTrue result ↔ ShowEmpty lp.now multipliers.now }
 {
-    has_one_a_row(lp, multipliers) && begins_above_0(multipliers) && makes_none_above_0(lp, multipliers)
+    has_one_a_row(lp, multipliers)
+        && begins_above_0(multipliers)
+        && makes_none_above_0(lp, multipliers)
 }
 
 fn has_one_a_row(lp: &Lp, multipliers: &NumList) -> bool
@@ -175,7 +177,10 @@ fn left_of(lp: &Lp, side: Side, den: i128, multipliers: &NumList, col: u32) -> i
     ensures value { result ≡ left_over lp.now side den multipliers.now col }
     ensures bound { unsigned_abs result ≤ 2 ^ 59 }
 {
-    difference(column_product(lp, multipliers, col), paid_times(lp, side, den, col))
+    difference(
+        column_product(lp, multipliers, col),
+        paid_times(lp, side, den, col),
+    )
 }
 
 /// The denominator times a player's payoff in a column.

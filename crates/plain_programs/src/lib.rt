@@ -31,7 +31,6 @@ pub use solutions::is_solution;
 pub use sums::are_weights;
 
 #[cfg(test)]
-mod spreads;
-
-#[cfg(test)]
 mod shown;
+#[cfg(test)]
+mod spreads;

@@ -50,7 +50,10 @@ fn certified_directions_of_a_segment(rt: HostRuntime) -> Result<(), Fail> {
         let second = listed(rt.alloc(), second)?;
         assert!(rt; are_moderate(&first) && are_moderate(&second) && den < 3 && den >= 0);
         assert!(rt; a < 3 && a >= 0 && b < 3 && b >= 0);
-        assert_eq!(rt; certifies(&lp, &Dir { a, b }, den, &first, &second), expected);
+        assert_eq!(rt;
+            certifies(&lp, &Dir { a, b }, den, &first, &second),
+            expected
+        );
     }
     Ok(())
 }
