@@ -5,6 +5,7 @@ pub mod Grafting
 pub mod Leading
 pub mod NewPlans
 pub mod ReachedPoints
+pub mod Places
 pub mod RunningSums
 pub mod WeightRoom
 pub mod WeightedSums

@@ -4,3 +4,4 @@ pub mod PaidWith
 pub mod ReducedAt
 pub mod Samples
 pub mod Weights
+pub mod SmallPolygon

@@ -9,12 +9,14 @@
 //! - `payoff_point`: what such a list pays on average
 //! - `is_solution`: whether numbers solve a linear program
 //! - `certifies`, `shows_empty`: whether multipliers certify a direction, or show that a program has no solution
+//! - `is_inside`: whether a point lies inside a polygon
 #![tactic(auto)]
 
 mod certificates;
 mod deviations;
 mod equilibria;
 mod grafts;
+mod insides;
 mod plans;
 mod points;
 mod samples;
@@ -24,12 +26,15 @@ mod sums;
 pub use certificates::{are_moderate, certifies, is_moderate, shows_empty};
 pub use equilibria::{Slack, are_entries, is_equilibrium};
 pub use grafts::{graft, is_below};
+pub use insides::{Place, is_inside};
 pub use plans::{is_reduced, leads};
 pub use points::{PayoffPoint, payoff_point};
 pub use samples::a_list_of_chicken_that_is_none;
 pub use solutions::is_solution;
 pub use sums::are_weights;
 
+#[cfg(test)]
+mod polygons;
 #[cfg(test)]
 mod shown;
 #[cfg(test)]
