@@ -6,6 +6,7 @@
 //! - `reports`, `notions`, `refusals`, `limits`, `cuts` and `families` compare what is printed
 //! - `checked` has the verdicts on reports, true and forged; `made` what is generated and its summaries
 //! - `equilibria` counts out, over all plans and all deviations, that each distribution that is found is an equilibrium
+//! - `lists` has distributions that were worked out by hand, held against the definition of equilibrium
 //! - `certificates` multiplies out that each side's multipliers bound each column of the program
 //! - `belts` goes round the sides: with the two before, a polygon is neither too small nor too large
 #![tactic(auto)]
@@ -32,6 +33,8 @@ mod games;
 mod generated;
 #[cfg(test)]
 mod limits;
+#[cfg(test)]
+mod lists;
 #[cfg(test)]
 mod made;
 #[cfg(test)]

@@ -1,5 +1,5 @@
--- Full choices, action by action: one that begins with the actions of all sets has no more, and one that begins with fewer goes on with some
--- action of the next set.
+-- Full choices, action by action: one that begins with the actions of all sets has no more, and one that begins with
+-- fewer goes on with some action of the next set.
 use Rattle.std.proofs.Common.{◌≡◌, ◌↔◌, ◌⊎◌, ℕ, zero, suc, ◌<◌, ◌≤◌, inl, inr, Bool, List, [], ◌∷◌, ◌++◌, Some, length, slice_get}
 use Rattle.std.proofs.Common.{IsTrue, refl, sym, ap, subst, ◌∙◌, append_assoc, length-append, arith}
 use Rattle.corr_game.specs.declared.nodes.SetInfo.{SetInfo}

@@ -1,4 +1,5 @@
--- How much room is left below 2^62 while weights are added: none so far is below 0, and the room and the weights so far make 2^62.
+-- How much room is left below 2^62 while weights are added: none so far is below 0, and the room and the weights so far
+-- make 2^62.
 use Rattle.std.proofs.Common.{◌≡◌, ℕ, zero, suc, true, false, ◌+◌, ◌^◌, ◌<◌, ◌≤◌, List, [], ◌∷◌, Some, inl, inr, length, drop, get_or, slice_get, ℤ, pos, ◌+ℤ◌, ◌-ℤ◌}
 use Rattle.std.proofs.Common.{◌≤ℤ◌, ◌<ℤ◌, unsigned_abs, refl, arith}
 use lib.Signed.{lt_z}

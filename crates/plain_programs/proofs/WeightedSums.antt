@@ -1,5 +1,5 @@
--- Sums over weighted pairs of plans, taken pair by pair: what is summed so far and what the pairs left give is the whole sum, and no
--- partial sum is larger than the weights allow.
+-- Sums over weighted pairs of plans, taken pair by pair: what is summed so far and what the pairs left give is the whole
+-- sum, and no partial sum is larger than the weights allow.
 use Rattle.std.proofs.Common.{◌≡◌, ℕ, zero, suc, ◌+◌, ◌*◌, ◌^◌, ◌<◌, ◌≤◌, List, [], ◌∷◌, All, Some, length, drop, get_or, slice_get}
 use Rattle.std.proofs.Common.{ℤ, pos, ◌+ℤ◌, ◌*ℤ◌, ◌≤ℤ◌, unsigned_abs, to_z, of_z, refl, sym, ap, subst, ◌∙◌, arith}
 use Rattle.std.specs.Int.{w128}

@@ -1,5 +1,6 @@
 // Whether a list of pairs of plans is an equilibrium list: all triggers and all full choices, one after the other.
-ghost use Rattle.std.specs.Prelude.{◌≡◌, ◌↔◌, ◌^◌, ◌<◌, ◌≤◌, ◌++◌, ◌∷◌, [], ℕ, pos, ◌+ℤ◌, ◌*ℤ◌, ◌≤ℤ◌, length, slice_get, unsigned_abs, All, IfOk, IsTrue, Some};
+ghost use Rattle.std.specs.Prelude.{◌≡◌, ◌↔◌, ◌^◌, ◌<◌, ◌≤◌, ◌++◌, ◌∷◌, [], ℕ, pos, ◌+ℤ◌, ◌*ℤ◌, ◌≤ℤ◌, length};
+ghost use Rattle.std.specs.Prelude.{slice_get, unsigned_abs, All, IfOk, IsTrue, Some};
 ghost use Rattle.corr_game.specs.declared.notions.Notion.TheVariants.{Efce, Efcce};
 ghost use Rattle.corr_game.specs.declared.nodes.SetInfo.{SetInfo};
 ghost use Rattle.corr_game.specs.declared.sides.Side.{Side};
@@ -26,8 +27,8 @@ pub struct Slack {
     pub den: u32,
 }
 
-/// Whether a list of pairs of plans is an equilibrium list of a notion: pairs of reduced plans with weight, where leaving at
-/// no trigger for any full choice gains either player more than the slack.
+/// Whether a list of pairs of plans is an equilibrium list of a notion: pairs of reduced plans with weight, where
+/// leaving at no trigger for any full choice gains either player more than the slack.
 pub fn is_equilibrium(
     alloc: Global,
     notion: Notion,
@@ -83,7 +84,8 @@ fn neither_improves(
     requires weights { AreWeights list.now }
     requires small { IsSmallSlack (record { num = slack.num; den = slack.den }) }
     ensures { IfOk result (λ answer. IsTrue answer
-        ↔ ((side : Side) → NoneImproves notion side game.now (record { num = slack.num; den = slack.den }) (entries_of list.now))) }
+        ↔ ((side : Side)
+        → NoneImproves notion side game.now (record { num = slack.num; den = slack.den }) (entries_of list.now))) }
 {
     let one = none_improves(alloc, notion, game, Side::One, slack, list)?;
     let two = none_improves(alloc, notion, game, Side::Two, slack, list)?;
@@ -158,7 +160,8 @@ fn none_told_at(
     requires set_in { set.0 < length (sets_of side game.now) }
     ensures { IfOk result (λ answer. IsTrue answer
         ↔ ((action : ℕ) (info : SetInfo) → slice_get (sets_of side game.now) set.0 ≡ Some info → action < info.actions
-        → NoneGains side game.now (record { num = slack.num; den = slack.den }) (entries_of list.now) (Told set action) [])) }
+        → NoneGains side game.now (record { num = slack.num; den = slack.den })
+            (entries_of list.now) (Told set action) [])) }
 {
     for action in 0..game.set(side, set).actions {
         if !none_gains(
@@ -238,7 +241,8 @@ fn none_gains_from(
     requires small { IsSmallSlack (record { num = slack.num; den = slack.den }) }
     requires front_in { IsFront side game.now front.items }
     ensures { IfOk result (λ answer. IsTrue answer
-        ↔ NoneGains side game.now (record { num = slack.num; den = slack.den }) (entries_of list.now) trigger front.items) }
+        ↔ NoneGains side game.now (record { num = slack.num; den = slack.den })
+            (entries_of list.now) trigger front.items) }
 {
     let set = front.len();
     if set >= game.sets(side) as usize {
@@ -282,7 +286,8 @@ fn gains_no_more(
     requires small { IsSmallSlack (record { num = slack.num; den = slack.den }) }
     requires full { IsFullChoice side game.now choice.now }
     ensures { IfOk result (λ answer. IsTrue answer
-        ↔ GainsNoMore side game.now (record { num = slack.num; den = slack.den }) (entries_of list.now) trigger choice.now) }
+        ↔ GainsNoMore side game.now (record { num = slack.num; den = slack.den })
+            (entries_of list.now) trigger choice.now) }
 {
     let left = leaving(alloc, game, side, trigger, choice, list)?;
     Ok(times(slack.den, left) <= most_allowed(game, side, slack, list))

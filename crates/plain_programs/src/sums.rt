@@ -1,5 +1,6 @@
 // What pairs of plans pay, summed by weight.
-ghost use Rattle.std.specs.Prelude.{◌≡◌, ◌↔◌, ◌*◌, ◌^◌, ◌<◌, ◌≤◌, pos, ◌*ℤ◌, ◌≤ℤ◌, length, slice_get, unsigned_abs, All, IfOk, IsTrue, Some};
+ghost use Rattle.std.specs.Prelude.{◌≡◌, ◌↔◌, ◌*◌, ◌^◌, ◌<◌, ◌≤◌, pos, ◌*ℤ◌, ◌≤ℤ◌, length};
+ghost use Rattle.std.specs.Prelude.{slice_get, unsigned_abs, All, IfOk, IsTrue, Some};
 ghost use Rattle.corr_game.specs.declared.plans.Pair.{Pair};
 ghost use Rattle.corr_game.specs.Plan.{IsPlan};
 ghost use Rattle.corr_game.specs.Walk.{walk};

@@ -1,4 +1,4 @@
--- Where all sets have an action that is the one full choice; else each full choice goes on with an action of the next set.
+-- Where all sets have an action that is the one full choice; else each goes on with an action of the next set.
 use Rattle.std.proofs.Common.{◌≡◌, [], ◌∷◌, ◌++◌, length, length-append, refl, ap, ◌∙◌, arith}
 use Rattle.equilibrium.specs.Distribution.{entries_of}
 use Rattle.plain_programs.proofs.Fronts.{each_next, longer_front, whole_front}
