@@ -161,7 +161,7 @@ fn none_told_at(
     ensures { IfOk result (λ answer. IsTrue answer
         ↔ ((action : ℕ) (info : SetInfo) → slice_get (sets_of side game.now) set.0 ≡ Some info → action < info.actions
         → NoneGains side game.now (record { num = slack.num; den = slack.den })
-            (entries_of list.now) (Told set action) [])) }
+        (entries_of list.now) (Told set action) [])) }
 {
     for action in 0..game.set(side, set).actions {
         if !none_gains(
@@ -242,7 +242,7 @@ fn none_gains_from(
     requires front_in { IsFront side game.now front.items }
     ensures { IfOk result (λ answer. IsTrue answer
         ↔ NoneGains side game.now (record { num = slack.num; den = slack.den })
-            (entries_of list.now) trigger front.items) }
+        (entries_of list.now) trigger front.items) }
 {
     let set = front.len();
     if set >= game.sets(side) as usize {
@@ -287,7 +287,7 @@ fn gains_no_more(
     requires full { IsFullChoice side game.now choice.now }
     ensures { IfOk result (λ answer. IsTrue answer
         ↔ GainsNoMore side game.now (record { num = slack.num; den = slack.den })
-            (entries_of list.now) trigger choice.now) }
+        (entries_of list.now) trigger choice.now) }
 {
     let left = leaving(alloc, game, side, trigger, choice, list)?;
     Ok(times(slack.den, left) <= most_allowed(game, side, slack, list))
