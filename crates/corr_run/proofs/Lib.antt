@@ -2,6 +2,10 @@ pub mod Commands
 pub mod Endings
 pub mod Errors
 pub mod FirstRefusals
+pub mod OneFileRefused
+pub mod OneRecall
+pub mod OneSize
+pub mod OneTriangle
 pub mod Ordering
 pub mod Reading
 pub mod Scales

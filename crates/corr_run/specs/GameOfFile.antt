@@ -13,12 +13,12 @@ use Rattle.tree_recall.specs.OwnSequence.{HasRecall}
 use Rattle.triangle_test.specs.Triangle.{IsTriangle}
 use Rattle.triangle_test.specs.declared.triangles.Quad.{Quad}
 
--- the bytes are a file whose lines break no rule, and this is the game that the lines say
+-- the bytes are a file whose lines break no rule, and this is the game that they say
 pub record SayGame (bytes : List ℕ) (raw : RawGameView) : Type 0 where
   pub file : FileView
   pub read : IsFileOf bytes file
   pub no_refusal : file_refusal file ≡ None
-  pub game : IsGameOf file raw
+  pub said : IsGameOf file raw
 
 -- so they do, and this is that game with whole amounts within the limits
 pub record SayScaled (bytes : List ℕ) (g : GameView) : Type 0 where

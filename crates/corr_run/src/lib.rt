@@ -8,6 +8,7 @@ mod answer;
 mod checking;
 mod games;
 mod input;
+mod laws;
 mod one_node;
 mod prepare;
 mod solving;
@@ -15,6 +16,7 @@ mod status;
 mod top;
 
 pub use command_words::{Command, Notions, read_words};
+pub use laws::{bytes_say_one_game, no_refusal_of_a_game, one_refusal_a_step};
 pub use prepare::{Ready, ReadyEnd};
 pub use status::Status;
 pub use top::run;

@@ -1,0 +1,21 @@
+use Rattle.efg_lines.proofs.SyntaxPlace.{no_file_there}
+use Rattle.corr_run.proofs.OneFileRefused.{no_lines_refusal}
+use Rattle.corr_run.proofs.OneRecall.{no_recall_refusal}
+use Rattle.corr_run.proofs.OneSize.{no_size}
+use Rattle.corr_run.proofs.OneTriangle.{no_triangle_refusal}
+use Rattle.corr_run.proofs.laws.no_refusal_of_a_game.Goals as goal
+
+pub returns-clause-syntax : goal.returns-clause-syntax
+returns-clause-syntax c = λ bytes raw at say stops. no_file_there bytes at stops say.read.has_file
+
+pub returns-clause-lines : goal.returns-clause-lines
+returns-clause-lines c = no_lines_refusal
+
+pub returns-clause-recall : goal.returns-clause-recall
+returns-clause-recall c = λ bytes g p refusal say of. no_recall_refusal g say.rules say.recall refusal of
+
+pub returns-clause-triangle : goal.returns-clause-triangle
+returns-clause-triangle c = λ bytes g p refusal game of. no_triangle_refusal g p game.no_triangle refusal of
+
+pub returns-clause-sizes : goal.returns-clause-sizes
+returns-clause-sizes c = λ notions bytes g p refusal game of. no_size g p notions refusal game.fit of
