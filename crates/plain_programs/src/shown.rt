@@ -28,33 +28,40 @@ fn listed(alloc: Global, numbers: &[i128]) -> Result<NumList, AllocError> {
     Ok(list)
 }
 
-/// A direction, a denominator, the multipliers of both payoff rows, and whether they certify the direction.
-const SIDES: [((i128, i128), i128, &[i128], &[i128], bool); 9] = [
-    ((1, 0), 1, &[3], &[1], true),
-    ((1, 0), 2, &[6], &[2], true),
-    ((1, 2), 1, &[3], &[1], true),
-    ((1, 2), 1, &[1], &[2], true),
-    ((0, 1), 1, &[1], &[2], true),
-    ((0, 1), 1, &[3], &[1], false),
-    ((1, 0), 1, &[2], &[1], false),
-    ((1, 0), 0, &[3], &[1], false),
-    ((1, 0), 1, &[3, 0], &[1], false),
+/// A direction, the multipliers of both payoff rows over 1, and whether they certify the direction.
+const SIDES: [((i128, i128), &[i128], &[i128], bool); 7] = [
+    ((1, 0), &[3], &[1], true),
+    ((1, 2), &[3], &[1], true),
+    ((1, 2), &[1], &[2], true),
+    ((0, 1), &[1], &[2], true),
+    ((0, 1), &[3], &[1], false),
+    ((1, 0), &[2], &[1], false),
+    ((1, 0), &[3, 0], &[1], false),
 ];
 
 #[test]
 fn certified_directions_of_a_segment(rt: HostRuntime) -> Result<(), Fail> {
     let lp = segment(rt.alloc())?;
     assert!(rt; is_moderate(&lp));
-    for ((a, b), den, first, second, expected) in SIDES {
+    for ((a, b), first, second, expected) in SIDES {
         let first = listed(rt.alloc(), first)?;
         let second = listed(rt.alloc(), second)?;
-        assert!(rt; are_moderate(&first) && are_moderate(&second) && den < 3 && den >= 0);
+        assert!(rt; are_moderate(&first) && are_moderate(&second));
         assert!(rt; a < 3 && a >= 0 && b < 3 && b >= 0);
-        assert_eq!(rt;
-            certifies(&lp, &Dir { a, b }, den, &first, &second),
-            expected
-        );
+        assert_eq!(rt; certifies(&lp, &Dir { a, b }, 1, &first, &second), expected);
     }
+    Ok(())
+}
+
+#[test]
+fn denominators_of_multipliers(rt: HostRuntime) -> Result<(), Fail> {
+    let lp = segment(rt.alloc())?;
+    let first = listed(rt.alloc(), &[6])?;
+    let second = listed(rt.alloc(), &[2])?;
+    assert!(rt; is_moderate(&lp) && are_moderate(&first) && are_moderate(&second));
+    let right = Dir { a: 1, b: 0 };
+    assert!(rt; certifies(&lp, &right, 2, &first, &second));
+    assert!(rt; !certifies(&lp, &right, 0, &first, &second));
     Ok(())
 }
 
