@@ -1,4 +1,5 @@
 mod Cutting
+mod Inside
 mod Joined
 mod Marking
 mod Points

@@ -1,4 +1,5 @@
 pub mod Outcome
+pub mod Paid
 pub mod Programs
 pub mod Shown
 pub mod Spread

@@ -8,7 +8,9 @@
 
 mod blocks;
 mod corners;
+mod laws;
 mod programs;
 mod wide;
 
 pub use blocks::solve;
+pub use laws::what_solutions_pay_lies_inside;
