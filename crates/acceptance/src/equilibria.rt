@@ -1,46 +1,18 @@
-// Each distribution that is found is an equilibrium with the payoffs of its corner.
+// Each distribution that is found is an equilibrium list by the definition, and pays what its corner says.
 ghost use Rattle.std.specs.Prelude.{◌≡◌, ℕ};
 ghost use Rattle.connected_pairs.specs.Connected.{IsPairsOf};
 
-use crate::deviations::{choices, gain, pay, plan_of, triggers};
 use crate::exact::{plus, times};
 use crate::games::{CHICKEN, COIN, DILEMMA, ENTRY, HEADS, ONE, ONE_CARD, SUMS};
 use crate::generated::{Draws, chain, public};
 use crate::opened::{Opened, open, solved};
-use crate::paths::{Paths, action_at};
-use corr_game::{Game, Notion, Pair, PairList, Plan, Side};
+use corr_game::{Game, Notion, PairList, Plan, Side};
 use corr_num::Frac;
+use plain_programs::{PayoffPoint, Slack, are_entries, are_weights, is_equilibrium, payoff_point};
 use report_form::{Block, Corner};
-use std::alloc::{AllocError, Global};
+use std::alloc::Global;
 use std::process::Abort;
 use std::test::Fail;
-
-/// No trigger's player gains by any full choice.
-fn expect_no_gain(
-    rt: &impl Abort,
-    alloc: Global,
-    game: &Game,
-    paths: &Paths,
-    notion: Notion,
-    pairs: &PairList,
-) -> Result<(), AllocError> {
-    for trigger in &triggers(alloc, game, notion)? {
-        for choice in 0..choices(rt, game, trigger.side) {
-            let more = gain(rt, alloc, game, paths, trigger, pairs, choice)?;
-            assert!(rt; more <= 0, "{trigger:?} gains {more} by choice {choice}");
-        }
-    }
-    Ok(())
-}
-
-/// A plan names an action exactly at the sets whose own sequence it plays.
-fn expect_reduced(rt: &impl Abort, game: &Game, paths: &Paths, pair: &Pair, side: Side) {
-    let plan = plan_of(pair, side);
-    for set in 0..game.sets(side) {
-        let named = action_at(plan, set).is_some();
-        assert_eq!(rt; named, paths.reaches(rt, side, plan, set));
-    }
-}
 
 /// The weighted pay over the total and the scale is the corner's payoff.
 fn expect_payoff(rt: &impl Abort, sum: i128, total: i128, scale: i64, payoff: &Frac) {
@@ -50,24 +22,24 @@ fn expect_payoff(rt: &impl Abort, sum: i128, total: i128, scale: i64, payoff: &F
     );
 }
 
-/// The weights sum to the total, and the pairs pay what the corner says.
-fn expect_point(rt: &impl Abort, game: &Game, paths: &Paths, corner: &Corner) {
-    let mut weights = 0;
-    let mut one = 0;
-    let mut two = 0;
-    for k in 0..corner.pairs.len() {
-        let pair = corner.pairs.at(k);
-        assert!(rt; pair.weight > 0);
-        expect_reduced(rt, game, paths, pair, Side::One);
-        expect_reduced(rt, game, paths, pair, Side::Two);
-        let pays = pay(rt, game, &pair.one, &pair.two);
-        weights = plus(rt, weights, pair.weight);
-        one = plus(rt, one, times(rt, pair.weight, pays.one));
-        two = plus(rt, two, times(rt, pair.weight, pays.two));
-    }
-    assert_eq!(rt; weights, corner.total);
-    expect_payoff(rt, one, weights, game.scale(Side::One), &corner.point.one);
-    expect_payoff(rt, two, weights, game.scale(Side::Two), &corner.point.two);
+/// The corner's pairs are an equilibrium list of the notion with its total, and pay its point.
+fn expect_corner(
+    rt: &impl Abort,
+    alloc: Global,
+    game: &Game,
+    notion: Notion,
+    corner: &Corner,
+) -> Result<(), Fail> {
+    let pairs = &corner.pairs;
+    let none = Slack { num: 0, den: 1 };
+    assert!(rt; are_weights(pairs));
+    assert!(rt; is_equilibrium(alloc, notion, game, none, pairs)?);
+    assert!(rt; are_entries(game, pairs));
+    let PayoffPoint { one, two, total } = payoff_point(game, pairs);
+    assert_eq!(rt; total, corner.total);
+    expect_payoff(rt, one, total, game.scale(Side::One), &corner.point.one);
+    expect_payoff(rt, two, total, game.scale(Side::Two), &corner.point.two);
+    Ok(())
 }
 
 /// Each corner of the notion's block, which may only lack where it is too wide.
@@ -84,12 +56,9 @@ fn expect_equilibria(
         assert!(rt; matches!(block, Block::TooWide { .. }));
         return Ok(());
     };
-    let paths = Paths::of(rt, alloc, &opened.game)?;
     assert!(rt; corners.len() > 0);
     for k in 0..corners.len() {
-        let corner = corners.at(k);
-        expect_point(rt, &opened.game, &paths, corner);
-        expect_no_gain(rt, alloc, &opened.game, &paths, notion, &corner.pairs)?;
+        expect_corner(rt, alloc, &opened.game, notion, corners.at(k))?;
     }
     Ok(())
 }
@@ -121,32 +90,9 @@ fn drawn_games(rt: HostRuntime) -> Result<(), Fail> {
     Ok(())
 }
 
-fn cooperation(alloc: Global) -> Result<PairList, AllocError> {
-    let one = Plan::from_list(vec![in alloc; Some(0); 1]?);
-    let two = Plan::from_list(vec![in alloc; Some(0); 1]?);
-    let mut pairs = PairList::new(alloc);
-    pairs.push(Pair {
-        one,
-        two,
-        weight: 1,
-    })?;
-    Ok(pairs)
-}
-
-// In the dilemma the first player who leaves cooperation gets 5 in place of 3: the count of gains sees it.
-#[test]
-fn cooperation_is_no_equilibrium(rt: HostRuntime) -> Result<(), Fail> {
-    let alloc = rt.alloc();
-    let Opened { game, .. } = open(&rt, alloc, DILEMMA)?;
-    let paths = Paths::of(&rt, alloc, &game)?;
-    let pairs = cooperation(alloc)?;
-    for notion in [Notion::Efce, Notion::Efcce, Notion::Nfcce] {
-        let all = triggers(alloc, &game, notion)?;
-        let first = all.first().expect(&rt, "player 1 has a trigger");
-        assert_eq!(rt; gain(&rt, alloc, &game, &paths, first, &pairs, 0)?, 0);
-        assert_eq!(rt; gain(&rt, alloc, &game, &paths, first, &pairs, 1)?, 2);
-    }
-    Ok(())
+/// Whether a plan takes an action at its first set.
+fn begins(plan: &Plan, action: usize) -> bool {
+    plan.len() > 0 && *plan.at(0) == Some(action)
 }
 
 /// The weight with which both players take these actions at their first sets.
@@ -154,7 +100,7 @@ fn weight_of(rt: &impl Abort, pairs: &PairList, one: usize, two: usize) -> i128 
     let mut sum = 0;
     for k in 0..pairs.len() {
         let pair = pairs.at(k);
-        if action_at(&pair.one, 0) == Some(one) && action_at(&pair.two, 0) == Some(two) {
+        if begins(&pair.one, one) && begins(&pair.two, two) {
             sum = plus(rt, sum, pair.weight);
         }
     }

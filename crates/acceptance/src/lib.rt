@@ -5,7 +5,7 @@
 //!
 //! - `reports`, `notions`, `refusals`, `limits`, `cuts` and `families` compare what is printed
 //! - `checked` has the verdicts on reports, true and forged; `made` what is generated and its summaries
-//! - `equilibria` counts out, over all plans and all deviations, that each distribution that is found is an equilibrium
+//! - `equilibria` asks the plain program of the definition whether each distribution that is found is an equilibrium
 //! - `lists` has distributions that were worked out by hand, held against the definition of equilibrium
 //! - `certificates` multiplies out that each side's multipliers bound each column of the program
 //! - `belts` goes round the sides: with the two before, a polygon is neither too small nor too large
@@ -19,8 +19,6 @@ mod certificates;
 mod checked;
 #[cfg(test)]
 mod cuts;
-#[cfg(test)]
-mod deviations;
 #[cfg(test)]
 mod equilibria;
 #[cfg(test)]
@@ -42,10 +40,10 @@ mod notions;
 #[cfg(test)]
 mod opened;
 #[cfg(test)]
-mod paths;
-#[cfg(test)]
 mod refusals;
 #[cfg(test)]
 mod reports;
 #[cfg(test)]
 mod runs;
+#[cfg(test)]
+mod trees;
