@@ -14,12 +14,6 @@ only_notion Efce = record { efce = true; efcce = false; nfcce = false }
 only_notion Efcce = record { efce = false; efcce = true; nfcce = false }
 only_notion Nfcce = record { efce = false; efcce = false; nfcce = true }
 
--- whether a notion is selected
-abbrev pub selects : Notions → Notion → Bool
-selects notions Efce = notions.efce
-selects notions Efcce = notions.efcce
-selects notions Nfcce = notions.nfcce
-
 -- the selected notions in their order
 abbrev pub selected : Notions → List Notion
 selected notions = cond notions.efce (Efce ∷ []) [] ++ cond notions.efcce (Efcce ∷ []) [] ++ cond notions.nfcce (Nfcce ∷ []) []
