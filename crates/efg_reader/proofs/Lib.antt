@@ -10,6 +10,7 @@ pub mod KnownSet
 pub mod LinesTaken
 pub mod ListedValues
 pub mod NextLine
+pub mod OneParent
 pub mod OneTree
 pub mod PlaceBelow
 pub mod Refusing

@@ -49,13 +49,18 @@ payoffs (Some words) = values number_value words
 -- the numbers of who moves; none where one of them passes its limit
 abbrev pub mover : LineKind → Option Mover
 mover (kind.Chance set acts) = option_and_then (λ number. option_map (λ probs. draws number probs) (probabilities acts)) (whole_value set)
-mover (kind.Player player set acts) = option_and_then (λ who. option_map (λ number. moves who number) (whole_value set)) (whole_value player)
+mover (kind.Player player set acts) =
+    option_and_then (λ who. option_map (λ number. moves who number) (whole_value set)) (whole_value player)
 mover kind.Leaf = Some nobody
 
 -- the numbers of a line; none where one of them passes its limit
 abbrev pub numbers : NodeLine → Option Numbers
 numbers line =
-    option_and_then (λ who. option_and_then (λ number. option_map (λ amounts. record { mover = who; outcome = number; pays = amounts }) (payoffs line.pays)) (whole_value line.outcome)) (mover line.kind)
+    option_and_then
+    (λ who. option_and_then
+    (λ number. option_map (λ amounts. record { mover = who; outcome = number; pays = amounts }) (payoffs line.pays))
+    (whole_value line.outcome))
+    (mover line.kind)
 
 -- the same of the program's values
 abbrev pub mover_of : Turn → Mover

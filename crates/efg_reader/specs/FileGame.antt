@@ -1,5 +1,6 @@
 -- The game that the lines of a file say.
-use Rattle.std.specs.Prelude.{◌≡◌, ℕ, ◌+◌, nat_eq, ◌==◌, if◌then◌else◌, List, [], ◌∷◌, length, map, take, drop, slice_index_or, Option, Some, None, unwrap_or, Ok}
+use Rattle.std.specs.Prelude.{◌≡◌, ℕ, ◌+◌, nat_eq, ◌==◌, if◌then◌else◌, Option, Some, None, unwrap_or, Ok}
+use Rattle.std.specs.Prelude.{List, [], ◌∷◌, length, map, take, drop, slice_index_or}
 use Rattle.std.specs.List.{position_or_len}
 use Rattle.std.specs.Map.{keys_of}
 use Rattle.corr_game.specs.declared.nodes.SetInfo.{SetInfo}

@@ -1,5 +1,6 @@
 -- The rules at a node, in their order: each gives the refusal of the first that doesn't hold, or none.
-use Rattle.std.specs.Prelude.{◌≡◌, ℕ, ◌^◌, Bool, nat_le, nat_lt, nat_eq, ◌==◌, ◌&&◌, ◌||◌, if◌then◌else◌, List, [], ◌∷◌, length, Option, Some, None, Result, Ok, Err}
+use Rattle.std.specs.Prelude.{◌≡◌, ℕ, ◌^◌, Bool, nat_le, nat_lt, nat_eq, ◌==◌, ◌&&◌, ◌||◌, if◌then◌else◌}
+use Rattle.std.specs.Prelude.{List, [], ◌∷◌, length, Option, Some, None, Result, Ok, Err}
 use Rattle.std.specs.Bool.{beq}
 use Rattle.std.specs.Cmp.Lexicographic.{pointwise}
 use Rattle.number_words.specs.Number.{NumberView}
@@ -7,7 +8,10 @@ use Rattle.number_words.specs.Chances.{has_negative, common_denominator, sum_to_
 use Rattle.efg_reader.specs.declared.first_lists.FirstList.{FirstList}
 use Rattle.efg_lines.specs.declared.node_line.ActLine.{ActLine}
 use Rattle.efg_lines.specs.declared.refusal.FileRefusal.{FileRefusal}
-use Rattle.efg_lines.specs.declared.refusal.FileRefusal.TheVariants.{ExtraNode, TooManyNodes, TooDeep, PlayerUnknown, NoActions, TooManyActions, ChanceNegative, ChanceTooFine, ChanceSum, SetUnknown, SetDiffers, PayoffCount, OutcomeUnknown, OutcomeDiffers, NoMemory}
+use Rattle.efg_lines.specs.declared.refusal.FileRefusal.TheVariants.{ExtraNode, TooManyNodes, TooDeep, PlayerUnknown, NoMemory}
+use Rattle.efg_lines.specs.declared.refusal.FileRefusal.TheVariants.{NoActions, TooManyActions, ChanceNegative, ChanceTooFine}
+use Rattle.efg_lines.specs.declared.refusal.FileRefusal.TheVariants.{ChanceSum, SetUnknown, SetDiffers}
+use Rattle.efg_lines.specs.declared.refusal.FileRefusal.TheVariants.{PayoffCount, OutcomeUnknown, OutcomeDiffers}
 use Rattle.efg_reader.specs.Entry.{Mover, draws, moves, nobody}
 use Rattle.efg_reader.specs.Told.{Listed}
 

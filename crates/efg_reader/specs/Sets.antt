@@ -39,7 +39,8 @@ abbrev pub HasActions : List SetInfo → ℕ → ℕ → Type 0
 HasActions sets set kids = (info : SetInfo) × (slice_get sets set ≡ Some info) × (kids ≡ info.actions)
 
 -- a choice at a set, which it defines where it is the set's first
-pub record IsChoice (side : Side) (old : List (ℕ × FirstList)) (set : ℕ) (list : Option FirstList) (new : List (ℕ × FirstList)) (event : Event) (kids : ℕ) : Type 0 where
+pub record IsChoice (side : Side) (old : List (ℕ × FirstList)) (set : ℕ) (list : Option FirstList) (new : List (ℕ × FirstList))
+    (event : Event) (kids : ℕ) : Type 0 where
   pub index : ℕ
   pub event_is : event ≡ Choice side (record { 0 = index })
   pub defined : IsDefined old set list new index
@@ -51,6 +52,7 @@ turn_of bare = (bare.event, bare.kids)
 
 -- a player's sets are those that the nodes so far name, in the order of their first nodes
 pub record AreSetsOf (side : Side) (turns : List (Event × ℕ)) (lists : List (ℕ × FirstList)) : Type 0 where
-  pub actions : All (λ (turn : Event × ℕ). (set : ℕ) → set_at side (childless turn.0) ≡ Some set → HasActions (map info_of lists) set turn.1) turns
+  pub actions : All (λ (turn : Event × ℕ).
+      (set : ℕ) → set_at side (childless turn.0) ≡ Some set → HasActions (map info_of lists) set turn.1) turns
   pub order : AreInOrder side 0 (map (λ (turn : Event × ℕ). childless turn.0) turns) (length lists)
   pub numbers : All (λ (entry : ℕ × FirstList). entry.0 < 2 ^ 31) lists

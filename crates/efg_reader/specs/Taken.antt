@@ -27,7 +27,8 @@ IsNamed (moves who set) list kids = (first : Listed) × (list ≡ Some first) ×
 -- the lines give the set of a line's node a list, and its outcome payoffs
 abbrev pub IsKnown : List Told → Told → Type 0
 IsKnown lines told =
-    IsNamed told.numbers.mover (first_list lines told.numbers.mover) (kid_count lines told) × ((pays : List NumberView) × (first_payoffs lines told.numbers.outcome ≡ Some pays))
+    IsNamed told.numbers.mover (first_list lines told.numbers.mover) (kid_count lines told)
+    × ((pays : List NumberView) × (first_payoffs lines told.numbers.outcome ≡ Some pays))
 
 -- the list that the program keeps for the set that a line names
 abbrev pub kept_list : Builder → Mover → Option Listed
@@ -60,4 +61,8 @@ pub record IsNext (lines : List Told) (line : NodeLine) (builder : Builder) : Ty
 
 -- the game of the nodes and sets that the program keeps
 abbrev pub built_game : Builder → RawGameView
-built_game builder = record { nodes = (assembled 0 builder.nodes.items).0; one = map info_of builder.one.entries; two = map info_of builder.two.entries }
+built_game builder = record {
+  nodes = (assembled 0 builder.nodes.items).0;
+  one = map info_of builder.one.entries;
+  two = map info_of builder.two.entries;
+}

@@ -1,6 +1,7 @@
 -- Lines whose numbers are all within their limits, and what they say of sets and outcomes: a set keeps the first list
 -- that a line gives for it, and an outcome the first payoffs.
-use Rattle.std.specs.Prelude.{ℕ, ◌==◌, nat_eq, not, false, if◌then◌else◌, List, [], ◌∷◌, map, filter, filter_map, Option, Some, None, option_map, option_and_then}
+use Rattle.std.specs.Prelude.{ℕ, ◌==◌, nat_eq, not, false, if◌then◌else◌, List, [], ◌∷◌, map, filter, filter_map}
+use Rattle.std.specs.Prelude.{Option, Some, None, option_map, option_and_then}
 use Rattle.std.specs.Map.{lookup}
 use Rattle.number_words.specs.Number.{NumberView}
 use Rattle.efg_reader.specs.Entry.{Mover, draws, moves, nobody, Numbers}
@@ -49,7 +50,8 @@ listed line mover = option_map (λ (acts : List ActLine). list_of acts (probs_in
 
 -- the list that a line gives for a set of this owner, with the set's number
 abbrev pub set_list : Owner → LineKind → Mover → Option (ℕ × Listed)
-set_list owner line mover = option_and_then (λ (set : ℕ). option_map (λ (list : Listed). (set, list)) (listed line mover)) (set_named owner mover)
+set_list owner line mover =
+    option_and_then (λ (set : ℕ). option_map (λ (list : Listed). (set, list)) (listed line mover)) (set_named owner mover)
 
 -- the payoffs that a line gives, if it gives them
 abbrev pub paid : Told → Option (List NumberView)

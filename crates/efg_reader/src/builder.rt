@@ -1,6 +1,7 @@
 //! The rules at the nodes of a file, one line after the other.
 
-ghost use Rattle.std.specs.Prelude.{◌≡◌, ◌+◌, ◌≤◌, ◌<◌, ◌^◌, length, vec_len, map, slice_get, Some, IsTrue, IfOk, IfSome, OnOk, All, nat_eq, option_map, IfErr, None, ℕ, List, if◌then◌else◌, ◌++◌, ◌∷◌, []};
+ghost use Rattle.std.specs.Prelude.{◌≡◌, ◌+◌, ◌≤◌, ◌<◌, ◌^◌, Some, IsTrue, IfOk, IfSome, OnOk, nat_eq, option_map, IfErr, None, ℕ};
+ghost use Rattle.std.specs.Prelude.{length, vec_len, map, slice_get, All, List, if◌then◌else◌, ◌++◌, ◌∷◌, []};
 ghost use Rattle.std.specs.List.{IsDistinct, position_or_len};
 ghost use Rattle.indexmap.specs.IndexMap.{get, index_map_len, keys};
 ghost use Rattle.efg_reader.specs.declared.first_lists.FirstList.{FirstList};
@@ -19,7 +20,8 @@ ghost use Rattle.efg_reader.specs.Entry.{mover_of};
 ghost use Rattle.efg_reader.specs.Lists.{AreFirstOutcomes, entry_in, list_entry, listed_in, with_given};
 ghost use Rattle.efg_reader.specs.Outline.{above, is_whole, places};
 ghost use Rattle.efg_reader.specs.Places.{awaited};
-ghost use Rattle.efg_reader.specs.Rules.{refusal_in, action_rules, chance_rules, first_of, list_chance_rules, named_rules, place_rules, Refuses};
+ghost use Rattle.efg_reader.specs.Rules.{action_rules, chance_rules, first_of, list_chance_rules, named_rules, place_rules};
+ghost use Rattle.efg_reader.specs.Rules.{refusal_in, Refuses};
 ghost use Rattle.efg_reader.specs.Sets.{info_of, turn_of, AreChances, AreSetsOf, IsChoice, IsWhole};
 ghost use Rattle.efg_reader.specs.Taken.{built_game, kept_list, kept_shape, AreWith, HasTaken, IsNamed, IsNext};
 ghost use Rattle.efg_reader.specs.Told.{chance, list_of, player, Told};
@@ -270,10 +272,13 @@ fn take_chance<'a>(
     ensures chances { IfOk result (λ it. HasChances it.0 it.1) }
     ensures lists { OnOk result (AreChances lists.new.entries) }
     ensures draw { IfOk result (λ it. IsDraw it.0) }
-    ensures refusal { Refuses result (first_of (list_chance_rules node list.entry ∷ named_rules node (option_map listed_in (get nat_eq lists.old set)) (option_map listed_in list.entry) ∷ [])) }
-    ensures new_lists { OnOk result (map entry_in lists.new.entries ≡ with_given (list_entry set list.entry) (map entry_in lists.old.entries)) }
+    ensures refusal { Refuses result (first_of (list_chance_rules node list.entry
+        ∷ named_rules node (option_map listed_in (get nat_eq lists.old set)) (option_map listed_in list.entry) ∷ [])) }
+    ensures new_lists { OnOk result (map entry_in lists.new.entries
+        ≡ with_given (list_entry set list.entry) (map entry_in lists.old.entries)) }
     ensures kids { IfOk result (λ it. (first : FirstList) × (get nat_eq lists.new set ≡ Some first) × (it.1 ≡ length first.acts.now)) }
-    ensures event { IfOk result (λ it. (first : FirstList) × (get nat_eq lists.new set ≡ Some first) × (it.0 ≡ Chance (map fraction_of first.probs.items))) }
+    ensures event { IfOk result (λ it. (first : FirstList) × (get nat_eq lists.new set ≡ Some first)
+        × (it.0 ≡ Chance (map fraction_of first.probs.items))) }
 {
     check_list_chances(&list, node)?;
     check_set(lists.get(&set), &list, node)?;
@@ -321,8 +326,10 @@ fn take_choice<'a>(
     requires { index_map_len lists.old < 4096 }
     ensures fits { IfOk result (λ it. IsTrue (is_fit it.0 it.1)) }
     ensures choice { IfOk result (λ it. IsChoice side lists.old.entries set list.entry lists.new.entries it.0 it.1) }
-    ensures refusal { Refuses result (named_rules node (option_map listed_in (get nat_eq lists.old set)) (option_map listed_in list.entry)) }
-    ensures new_lists { OnOk result (map entry_in lists.new.entries ≡ with_given (list_entry set list.entry) (map entry_in lists.old.entries)) }
+    ensures refusal { Refuses result
+        (named_rules node (option_map listed_in (get nat_eq lists.old set)) (option_map listed_in list.entry)) }
+    ensures new_lists { OnOk result (map entry_in lists.new.entries
+        ≡ with_given (list_entry set list.entry) (map entry_in lists.old.entries)) }
     ensures kids { IfOk result (λ it. (first : FirstList) × (get nat_eq lists.new set ≡ Some first) × (it.1 ≡ length first.acts.now)) }
     ensures event { IfOk result (λ it. it.0 ≡ Choice side (record { 0 = position_or_len (nat_eq set) (keys lists.new) })) }
 {

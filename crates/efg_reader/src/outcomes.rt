@@ -29,8 +29,10 @@ pub fn take_outcome(
     pays: &[Number],
     node: u32,
 ) -> Result<OutcomePays, FileRefusal>
-    ensures refusal { Refuses result (payoff_rules node (option_map pays_in (get nat_eq outcomes.old outcome)) (pays_if is_listed pays.now)) }
-    ensures outcomes { OnOk result (map outcome_in outcomes.new.entries ≡ with_given (outcome_entry outcome is_listed pays.now) (map outcome_in outcomes.old.entries)) }
+    ensures refusal { Refuses result
+        (payoff_rules node (option_map pays_in (get nat_eq outcomes.old outcome)) (pays_if is_listed pays.now)) }
+    ensures outcomes { OnOk result (map outcome_in outcomes.new.entries
+        ≡ with_given (outcome_entry outcome is_listed pays.now) (map outcome_in outcomes.old.entries)) }
     ensures kept { IfOk result (λ it. option_map pays_in (get nat_eq outcomes.new outcome) ≡ Some (pays_in it)) }
 {
     let known = outcomes.get(&outcome).copied();

@@ -1,6 +1,7 @@
 //! The sets of a player or of chance: the first list of each, in the order of their first lines.
 
-ghost use Rattle.std.specs.Prelude.{◌≡◌, ℕ, ◌+◌, ◌≤◌, ◌<◌, length, map, slice_get, Some, option_map, option_copied, nat_eq, is_some, ◌||◌, IsTrue, IfOk, OnOk};
+ghost use Rattle.std.specs.Prelude.{◌≡◌, ℕ, ◌+◌, ◌≤◌, ◌<◌, length, map, slice_get, nat_eq, ◌||◌, IsTrue, IfOk, OnOk};
+ghost use Rattle.std.specs.Prelude.{Some, option_map, option_copied, is_some};
 ghost use Rattle.std.specs.Cmp.Lexicographic.{pointwise};
 ghost use Rattle.indexmap.specs.IndexMap.{get, index_map_len, keys};
 ghost use Rattle.std.specs.List.{position_or_len};
@@ -19,7 +20,8 @@ pub fn check_set(
     list: &Option<FirstList>,
     node: u32,
 ) -> Result<(), FileRefusal>
-    ensures refusal { refusal_in result ≡ named_rules node (option_map listed_in (option_copied first.entry)) (option_map listed_in list.now) }
+    ensures refusal { refusal_in result
+        ≡ named_rules node (option_map listed_in (option_copied first.entry)) (option_map listed_in list.now) }
     ensures named { OnOk result (IsTrue (is_some first.entry || is_some list.now)) }
 {
     let Some(list) = list else {
