@@ -12,3 +12,6 @@ pub mod Parents
 pub mod PathsSoFar
 pub mod Refusals
 pub mod ScaledGame
+pub mod OnePath
+pub mod OneScaling
+pub mod OneScaleRefusal
