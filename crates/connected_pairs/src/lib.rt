@@ -6,9 +6,11 @@
 #![tactic(auto)]
 
 mod ends;
+mod laws;
 mod pairs;
 mod table;
 
+pub use laws::{a_game_has_one_table_of_pairs, relevance_goes_back};
 pub use pairs::Pairs;
 
 #[cfg(test)]

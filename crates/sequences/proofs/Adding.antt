@@ -10,7 +10,7 @@ use Rattle.corr_game.specs.declared.nodes.SetInfo.{SetInfo}
 use Rattle.tree_recall.specs.LastMove.{IsMoveBelow}
 use Rattle.tree_recall.proofs.Progress.{slice_get-push}
 use Rattle.sequences.specs.declared.places.Place.{Place}
-use Rattle.sequences.specs.Number.{IsNumbered, IsNumberingOf, IsTaken, HasNumber, SameActions}
+use Rattle.sequences.specs.Number.{IsNumbered, IsNumberingOf, IsTaken, HasNumber, SameActions, AreInTurn}
 use Rattle.sequences.proofs.Few.{actions_of}
 
 pub within : {X : Type 0} (xs : List X) (k : ℕ) → k < length xs → (x : X) × (slice_get xs k ≡ Some x)
@@ -61,6 +61,7 @@ pub record IsPart (sets : List SetInfo) (set : ℕ) (places : List Place) (lasts
   pub numbered : IsNumbered places lasts
   pub count : length places ≡ set
   pub same_actions : SameActions sets places
+  pub in_turn : AreInTurn sets places
   pub all : length lasts ≡ sum_by actions_of (take set sets)
 
 pub no_part : (sets : List SetInfo) → IsPart sets 0 [] []
@@ -68,6 +69,7 @@ no_part sets = record {
   numbered = record { own_before = λ set place h. absurd (cc); in_range = λ set place h. absurd (cc); each_last = λ k move h. absurd (cc); each_move = λ move k h. absurd (cc (h.1)) };
   count = refl;
   same_actions = λ set place info h i. absurd (cc);
+  in_turn = λ set place h. absurd (cc);
   all = refl;
 }
 
@@ -131,6 +133,12 @@ added sets set places lasts place info p room at own first same =
             let found : info ≡ i = cc in
             rw (← end.1, ← found) same
       ];
+      in_turn = λ k x h. elim (slice_get-push places place x k h) [
+        | inl there ↦ p.in_turn k x there
+        | inr end ↦
+            let index : k ≡ set.0 = end.0 ∙ p.count in
+            rw (← end.1, index) (omega (arith, first, p.all))
+      ];
       all = omega (arith, longer, count, p.all, sum_by_more actions_of sets set.0 info room, ap actions_of (get_or_from_slice_get sets set.0 info info at), same);
     }
 
@@ -140,4 +148,5 @@ whole sets set places lasts p e few = record {
   few = part-few sets set places lasts p few;
   per_set = p.count ∙ sym e;
   same_actions = p.same_actions;
+  in_turn = p.in_turn;
 }

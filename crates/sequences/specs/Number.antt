@@ -1,6 +1,6 @@
 -- Sequences of one player by number (von Stengel 1996): 0 is the empty one; then, by set and by action, a set's own
 -- sequence followed by a move there.
-use Rattle.std.specs.Prelude.{◌≡◌, ℕ, ◌+◌, ◌<◌, ◌≤◌, zero, suc, List, length, Option, Some, None, slice_get, ◌⊎◌}
+use Rattle.std.specs.Prelude.{◌≡◌, ℕ, ◌+◌, ◌<◌, ◌≤◌, zero, suc, List, length, take, sum_by, Option, Some, None, slice_get, ◌⊎◌}
 use Rattle.corr_game.specs.declared.nodes.SetId.{SetId}
 use Rattle.corr_game.specs.declared.nodes.SetInfo.{SetInfo}
 use Rattle.corr_game.specs.declared.sides.Side.{Side}
@@ -69,12 +69,21 @@ HasNumber places (Some move) seq = Ends places move seq
 abbrev pub SameActions : List SetInfo → List Place → Type 0
 SameActions sets places = (set : ℕ) (place : Place) (info : SetInfo) → slice_get places set ≡ Some place → slice_get sets set ≡ Some info → place.actions ≡ info.actions
 
+-- how many sequences end at the sets before this one: one for each of their actions
+abbrev pub ends_before : List SetInfo → ℕ → ℕ
+ends_before sets set = sum_by (λ (info : SetInfo). info.actions) (take set sets)
+
+-- the sequences that end at a set follow the empty one and those that end at the sets before
+abbrev pub AreInTurn : List SetInfo → List Place → Type 0
+AreInTurn sets places = (set : ℕ) (place : Place) → slice_get places set ≡ Some place → place.first ≡ ends_before sets set + 1
+
 -- the places and last moves of these sets' sequences
 pub record IsNumberingOf (sets : List SetInfo) (places : List Place) (lasts : List (SetId × ℕ)) : Type 0 where
   pub numbered : IsNumbered places lasts
   pub few : length lasts < 4096
   pub per_set : length places ≡ length sets
   pub same_actions : SameActions sets places
+  pub in_turn : AreInTurn sets places
 
 -- the rules of one player's numbers
 pub record IsSide (v : SideView) : Type 0 where
@@ -90,10 +99,12 @@ AreAtNodes side g places nodes = (n seq : ℕ) (last : Option (SetId × ℕ)) �
 unfoldable pub AreOwn : Side → GameView → List Place → Type 0
 AreOwn side g places = (n set : ℕ) (place : Place) (last : Option (SetId × ℕ)) → set_of g side n ≡ Some set → slice_get places set ≡ Some place → IsLastAt g side n last → HasNumber places last place.own
 
--- one place per set, with as many actions, and one sequence per node; each is that of the last own move in the tree
+-- one place per set, with as many actions, set by set, and one sequence per node; each is that of the last own move in the
+-- tree
 pub record IsSideOf (side : Side) (g : GameView) (v : SideView) : Type 0 where
   pub per_set : length v.places ≡ length (sets_of side g)
   pub same_actions : SameActions (sets_of side g) v.places
+  pub in_turn : AreInTurn (sets_of side g) v.places
   pub per_node : length v.nodes ≡ length g.nodes
   pub at_nodes : AreAtNodes side g v.places v.nodes
   pub own_of_tree : AreOwn side g v.places

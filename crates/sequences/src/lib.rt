@@ -5,11 +5,13 @@
 //! player, as the place of each set in that numbering, the last move of each sequence and the sequence of each node.
 #![tactic(auto)]
 
+mod laws;
 mod nodes;
 mod numbers;
 mod places;
 mod seqs;
 
+pub use laws::a_game_has_one_numbering;
 pub use seqs::Seqs;
 
 #[cfg(test)]
