@@ -2,11 +2,13 @@ pub mod ArtificialSum
 pub mod Beginning
 pub mod Counting
 pub mod Emptiness
+pub mod Listing
 pub mod Lowering
 pub mod Optima
 pub mod Orders
 pub mod PhaseRows
 pub mod Ratios
+pub mod Reaching
 pub mod Read
 pub mod RightSides
 pub mod Runs

@@ -6,5 +6,6 @@ pub mod Lowering
 pub mod Multipliers
 pub mod Open
 pub mod Order
+pub mod Reachable
 pub mod Ready
 pub mod Steps
