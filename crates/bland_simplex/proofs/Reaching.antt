@@ -13,13 +13,15 @@ use Rattle.lp_form.specs.declared.places.RowName.TheVariants.{Basic, First, Seco
 use Rattle.plane_hull.specs.declared.directions.Dir.{Dir}
 use Rattle.int_tableau.proofs.Reaching.{quotient_of, start_kept}
 use Rattle.int_tableau.proofs.Starting.{start_reached}
+use Rattle.int_tableau.specs.declared.ends.PivotEnd.{PivotEnd}
+use Rattle.int_tableau.specs.declared.ends.PivotEnd.TheVariants.{Wide as WideAt, NoMemory}
 use Rattle.int_tableau.specs.Content.{Content, IsNamed}
 use Rattle.int_tableau.specs.Pivot.{EndsWide, IsPivoted, numerator, pivot_row}
 use Rattle.int_tableau.specs.Reached.{IsReachedFrom}
 use Rattle.int_tableau.specs.Start.{start_entry}
 use Rattle.bland_simplex.specs.Open.{IsOpenFor}
-use Rattle.bland_simplex.specs.Reachable.{Heading, HeadsIn, IsWideBasis, LeavesWide, ListsBasis, MayReach, starts, steps, turns}
-use Rattle.bland_simplex.specs.Steps.{IsFirstStep, IsTurning, StepsLead, StepsLeadWide, stays, goes}
+use Rattle.bland_simplex.specs.Reachable.{Heading, HeadsIn, IsLeftWide, IsWideBasis, LeavesWide, ListsBasis, MayReach, starts, steps, turns}
+use Rattle.bland_simplex.specs.Steps.{IsFirstStep, IsTurning, StepsEnd, StepsLead, StepsLeadWide, stays, goes}
 
 -- what each step has: an open tableau of the program's start, and an entry of it that isn't 0
 record MayPivot (lp : LpView) (t : Content) (row col : ℕ) : Type 0 where
@@ -155,6 +157,10 @@ steps_may lp heading dir Step first next are heads may (goes at _ row col led st
 pub steps_leave_wide : (lp : LpView) (heading : Heading) (dir : Dir) (Step : Content → ℕ → ℕ → Type 0) (first new : Content) (place : Place) → ((t : Content) (row col : ℕ) → Step t row col → IsFirstStep lp t row col ⊎ IsTurning lp dir t row col) → HeadsIn heading dir → MayReach lp heading first → StepsLeadWide Step first new place → LeavesWide lp new place
 steps_leave_wide lp heading dir Step first new place are heads may ended =
     step_leaves_wide lp heading dir ended.last new ended.row ended.col place (steps_may lp heading dir Step first ended.last are heads may ended.led) heads (are ended.last ended.row ended.col ended.step) ended.wide
+
+pub steps_left : (lp : LpView) (heading : Heading) (dir : Dir) (Step : Content → ℕ → ℕ → Type 0) (first new : Content) (end : PivotEnd) → ((t : Content) (row col : ℕ) → Step t row col → IsFirstStep lp t row col ⊎ IsTurning lp dir t row col) → HeadsIn heading dir → MayReach lp heading first → StepsEnd Step first new end → IsLeftWide lp new end
+steps_left lp heading dir Step first new (WideAt place) are heads may ended = steps_leave_wide lp heading dir Step first new place are heads may ended
+steps_left lp heading dir Step first new NoMemory are heads may ended = tt
 
 -- A list of the basis that is left is one of the wide tableau's.
 pub listed_wide : (lp : LpView) (left : Content) (place : Place) (columns : List ℕ) → LeavesWide lp left place → ListsBasis columns left → IsWideBasis lp columns place

@@ -8,6 +8,8 @@ use Rattle.lp_form.specs.declared.places.Place.{Place}
 use Rattle.plane_hull.specs.Angle.{angle_cmp}
 use Rattle.plane_hull.specs.Belt.{IsRight}
 use Rattle.plane_hull.specs.declared.directions.Dir.{Dir}
+use Rattle.int_tableau.specs.declared.ends.PivotEnd.{PivotEnd}
+use Rattle.int_tableau.specs.declared.ends.PivotEnd.TheVariants.{Wide as WideAt, NoMemory}
 use Rattle.int_tableau.specs.Content.{Content, IsNamed, IsProgramRow, IsTableau}
 use Rattle.int_tableau.specs.Pivot.{IsPivoted}
 use Rattle.int_tableau.specs.Start.{IsStart}
@@ -67,6 +69,10 @@ NeverWide lp =
     (heading : Heading) (t : Content) (row col : ℕ) → MayReach lp heading t → row < t.rows → col < t.cols
     → Wide (t.entry row col) → ⊥
 
+-- the method may lead to the tableau before it turns
+abbrev pub MayBeginAt : LpView → Content → Type 0
+MayBeginAt lp t = (dir : Dir) → IsRight dir → MayReach lp (turning dir) t
+
 -- what is left has size and basis of a tableau to which the method may lead, which is wide at the place
 pub record LeavesWide (lp : LpView) (left : Content) (place : Place) : Type 0 where
   pub heading : Heading
@@ -75,3 +81,8 @@ pub record LeavesWide (lp : LpView) (left : Content) (place : Place) : Type 0 wh
   pub wide : IsWideAt tableau place
   pub rows : left.rows ≡ tableau.rows
   pub basis : (row : ℕ) → IsProgramRow left row → left.basic row ≡ tableau.basic row
+
+-- what is left where pivots come to an end before their aim
+abbrev pub IsLeftWide : LpView → Content → PivotEnd → Type 0
+IsLeftWide lp left (WideAt place) = LeavesWide lp left place
+IsLeftWide lp left NoMemory = Unit {0}

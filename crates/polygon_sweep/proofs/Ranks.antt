@@ -162,7 +162,7 @@ rank_low n a b a_low b_low (none h k) = omega arith
 abbrev left_up_to : (n : ℕ) → ℤ → ℤ → ℕ
 left_up_to n a b = 4 * quarter_rank n - rank_in n a b (quarter_of a b)
 
-one_of_gcd : (c : ℤ) → pos 0 <ℤ c → IsGcd (unsigned_abs c) 0 1 → c ≡ pos 1
+pub one_of_gcd : (c : ℤ) → pos 0 <ℤ c → IsGcd (unsigned_abs c) 0 1 → c ≡ pos 1
 one_of_gcd c over divisor = let low = le_of_dvd (omega arith) (divisor.2 (unsigned_abs c) (dvd_refl (unsigned_abs c)) (dvd-zero (unsigned_abs c))) in omega (arith, ints)
 
 left_falls : (n : ℕ) (a b c d : ℤ) → unsigned_abs a ≤ n → unsigned_abs b ≤ n → unsigned_abs c ≤ n → unsigned_abs d ≤ n → TurnsFrom a b c d → (pos 0 <ℤ c → d ≡ pos 0 → ⊥) → left_up_to n c d < left_up_to n a b

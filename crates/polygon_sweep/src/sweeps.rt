@@ -1,8 +1,10 @@
-ghost use Rattle.std.specs.Prelude.{◌≡◌, ◌↔◌, ℕ, ◌<◌, OnOk, IfOk, IsTrue, Some, length, slice_get};
+ghost use Rattle.std.specs.Prelude.{◌≡◌, ◌↔◌, ℕ, ◌<◌, OnOk, IfOk, IfErr, IsTrue, Some, length, slice_get};
 ghost use Rattle.lp_form.specs.Program.{LpView};
 ghost use Rattle.lp_form.specs.Solutions.{HasBoundedPayoffs};
 ghost use Rattle.bland_simplex.specs.Improving.{IsOptimal};
+ghost use Rattle.bland_simplex.specs.Reachable.{IsLeftWide, MayBeginAt};
 ghost use Rattle.bland_simplex.specs.Ready.{IsReady};
+ghost use Rattle.bland_simplex.specs.Steps.{IsTurning, StepsEnd, StepsLead};
 ghost use Rattle.polygon_sweep.specs.Swept.{IsAt, IsBounding, IsCoprime, IsCornerOf, IsGrown, IsSideAmong, IsSwept};
 ghost use Rattle.polygon_sweep.specs.Turning.{IsFullTurn};
 
@@ -103,6 +105,8 @@ fn turn<T: Tableau>(
     requires before { IsSwept lp.now swept.old }
     ensures ready { OnOk result (IsReady lp.now (T.content table.new)) }
     ensures optimal { OnOk result (IsOptimal (T.content table.new) (length lp.now.rows) lp.now.cols dir) }
+    ensures steps { OnOk result (StepsLead (IsTurning lp.now dir) (T.content table.old) (T.content table.new)) }
+    ensures end { IfErr result (StepsEnd (IsTurning lp.now dir) (T.content table.old) (T.content table.new)) }
     ensures reached { IfOk result (IsAt lp.now (T.content table.new) swept.new.corners) }
     ensures after { OnOk result (IsSwept lp.now swept.new) }
 {
@@ -152,6 +156,7 @@ pub fn sweep<T: Tableau>(alloc: Global, lp: &Lp, table: &mut T) -> Result<Swept,
     requires ready { IsReady lp.now (T.content table.old) }
     requires bounded { HasBoundedPayoffs lp.now }
     ensures swept { IfOk result (IsSwept lp.now) }
+    ensures wide { IfErr result (λ end. MayBeginAt lp.now (T.content table.old) → IsLeftWide lp.now (T.content table.new) end) }
 {
     let shape = Shape::of(lp);
     let mut dir = Dir { a: 1, b: 0 };

@@ -1,7 +1,9 @@
 -- The tableau is ready and optimal for the direction, the present corner is one of those found, and what was found is a part of the
--- polygon's belt. Each turn raises the direction's rank.
+-- polygon's belt. Each turn raises the direction's rank. The method may lead to the tableau, heading
+-- there.
 use Rattle.std.proofs.Common.{length}
 use Rattle.bland_simplex.specs.Improving.{IsOptimal}
+use Rattle.bland_simplex.specs.Reachable.{MayBeginAt, MayReach, turning}
 use Rattle.bland_simplex.specs.Ready.{IsReady}
 use Rattle.polygon_sweep.specs.Swept.{IsAt, IsCoprime, IsSwept}
 use Rattle.polygon_sweep.proofs.Ranks.{rank_left}
@@ -14,6 +16,7 @@ invariant-loop-shape g l =
     × IsCoprime l.dir
     × IsAt l.lp (g.T.Tableau.content l.table) l.swept.corners l.present
     × IsSwept l.lp l.swept
+    × (MayBeginAt l.lp (g.T.Tableau.content l.fn.table) → MayReach l.lp (turning l.dir) (g.T.Tableau.content l.table))
 
 abbrev pub decreases-loop-shape : goal.decreases-loop-shape
 decreases-loop-shape g l = rank_left l.dir
