@@ -9,16 +9,12 @@ use Rattle.corr_game.specs.Game.{GameView}
 use Rattle.corr_num.specs.Narrow.{Narrow}
 use Rattle.equilibrium.specs.Deviation.{following}
 use Rattle.equilibrium.specs.Distribution.{entries_of, total}
-use Rattle.equilibrium.specs.Equilibrium.{NoneImproves, Slack}
+use Rattle.equilibrium.specs.Equilibrium.{NoneImproves, no_slack}
 use Rattle.equilibrium.specs.ReducedPlan.{IsReduced}
 use Rattle.report_form.specs.Certified.{IsPointIn}
 use Rattle.report_form.specs.declared.reports.Corner.{Corner}
 use Rattle.cert_check.specs.declared.verdicts.Cause.{Cause}
 use Rattle.cert_check.specs.declared.verdicts.Cause.TheVariants.{Plan, Total, Width, Point, Gain}
-
--- no gain at all is allowed
-abbrev pub no_slack : Slack
-no_slack = record { num = 0; den = 1 }
 
 -- a reduced plan of each player
 abbrev pub AreReduced : GameView → Pair → Type 0

@@ -126,7 +126,7 @@ allows_other side plan (Leaf pay) action e = refl
 allows_other side plan (Chance kids) action e = refl
 allows_other side plan (Choice mover at kids) action e = other_allows (same_side side mover) at.0 (names action (slice_get plan at.0)) e
 
-names_is : (action : ℕ) (entry : Option (Option ℕ)) → names action entry ≡ true → entry ≡ Some (Some action)
+pub names_is : (action : ℕ) (entry : Option (Option ℕ)) → names action entry ≡ true → entry ≡ Some (Some action)
 names_is action None h = absurd (cc)
 names_is action (Some None) h = absurd (cc)
 names_is action (Some (Some named)) h = ap (λ (n : ℕ). Some (Some n)) (eqb-true named action h)

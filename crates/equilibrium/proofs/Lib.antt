@@ -4,9 +4,12 @@ pub mod Coming
 pub mod Descents
 pub mod FirstSets
 pub mod Mixing
+pub mod LeafSums
 pub mod MoreSlack
+pub mod NamedWhereLed
 pub mod Nesting
 pub mod NodesBelow
+pub mod OwnSteps
 pub mod Splitting
 pub mod StartGains
 pub mod Together

@@ -1,5 +1,5 @@
 -- A greater slack allows each deviation that a smaller one allows: by cross-multiplication.
-use Rattle.std.proofs.Common.{◌≡◌, ◌*◌, ◌≤◌, ℕ, List, ℤ, pos, ◌+ℤ◌, ◌*ℤ◌, ◌≤ℤ◌, ◌<ℤ◌, refl, arith}
+use Rattle.std.proofs.Common.{◌*◌, ◌≤◌, ℕ, List, ℤ, pos, ◌+ℤ◌, ◌*ℤ◌, ◌≤ℤ◌, ◌<ℤ◌, arith}
 use Rattle.std.proofs.lemmas.Int.{ints}
 use Rattle.exact_algebra.proofs.Order.{cancel_at_most, product_not_negative, times_at_most}
 use Rattle.exact_algebra.proofs.RingLaws.{*ℤ_assoc}

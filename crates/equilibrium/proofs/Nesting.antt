@@ -19,7 +19,7 @@ use Rattle.equilibrium.specs.declared.triggers.Trigger.{Trigger}
 use Rattle.equilibrium.specs.declared.triggers.Trigger.TheVariants.{Told, Reached, Start}
 use Rattle.equilibrium.specs.Deviation.{IsTriggerOf, deviated, deviated_pay, following, leaving}
 use Rattle.equilibrium.specs.Distribution.{Entry, IsEntry, pay, total}
-use Rattle.equilibrium.specs.Equilibrium.{GainsNoMore, IsEquilibriumList, Slack}
+use Rattle.equilibrium.specs.Equilibrium.{GainsNoMore, IsEquilibriumList, no_slack}
 use Rattle.equilibrium.specs.FullChoice.{IsFullChoice, graft}
 use Rattle.equilibrium.specs.Reach.{leads}
 use Rattle.equilibrium.specs.ReducedPlan.{IsReduced, names_some}
@@ -29,7 +29,7 @@ abbrev Plan : Type 0
 Plan = List (Option ℕ)
 
 -- an entry that names some action names one
-named_one : (entry : Option (Option ℕ)) → names_some entry ≡ true → (action : ℕ) × (entry ≡ Some (Some action))
+pub named_one : (entry : Option (Option ℕ)) → names_some entry ≡ true → (action : ℕ) × (entry ≡ Some (Some action))
 named_one None h = absurd (cc)
 named_one (Some None) h = absurd (cc)
 named_one (Some (Some action)) h = (action, refl)
@@ -93,9 +93,6 @@ no_gain l f h = omega (arith, ints)
 
 pub no_gain_together : (l f s z : ℤ) → l -ℤ f ≡ s → s ≤ℤ z → z ≡ pos 0 → l ≤ℤ f
 no_gain_together l f s z split most none = omega (arith, ints)
-
-abbrev no_slack : Slack
-no_slack = record { num = 0; den = 1 }
 
 reached_none : (side : Side) (g : GameView) (list : List Entry) → IsEquilibriumList Efce g no_slack list
     → (trigger : Trigger) (choice : List ℕ)

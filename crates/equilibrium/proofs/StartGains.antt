@@ -26,7 +26,7 @@ use Rattle.equilibrium.specs.declared.triggers.Trigger.TheVariants.{Told, Reache
 use Rattle.equilibrium.specs.Deviation.{IsTriggerOf, deviated_pay, following, leaving}
 use Rattle.equilibrium.specs.Distribution.{Entry, IsEntry, pay}
 use Rattle.equilibrium.specs.Distribution.{total as weights_total}
-use Rattle.equilibrium.specs.Equilibrium.{GainsNoMore, IsEquilibriumList, Slack}
+use Rattle.equilibrium.specs.Equilibrium.{GainsNoMore, IsEquilibriumList, no_slack}
 use Rattle.equilibrium.specs.FullChoice.{IsFullChoice, graft, is_under, replaced}
 use Rattle.equilibrium.specs.Reach.{leads}
 use Rattle.equilibrium.proofs.Agreeing.{AgreeFrom, IsFrom, pay_alike}
@@ -251,9 +251,6 @@ entry_splits Two g rules recall choice entry is =
     splits Two g rules recall entry.one choice entry.two is.two.is_plan.per_set
     ∙ sum_to-same (length g.two) _ _ (λ k h. ap (λ (z : ℤ). z -ℤ pay Two g entry)
     (left_or_kept (λ plan. walk Two g entry.one plan 0) Two g rules choice entry.two k (is_first Two g k) refl))
-
-abbrev no_slack : Slack
-no_slack = record { num = 0; den = 1 }
 
 -- what leaving at a first set gains, or at no set, is nothing
 part_gains : (side : Side) (g : GameView) (list : List Entry) → IsEquilibriumList Efcce g no_slack list → (choice : List ℕ)

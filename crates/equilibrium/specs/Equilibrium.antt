@@ -14,6 +14,10 @@ pub record Slack : Type 0 where
   pub num : ℕ
   pub den : ℕ
 
+-- no gain at all
+abbrev pub no_slack : Slack
+no_slack = record { num = 0; den = 1 }
+
 -- leaving at a trigger for a full choice gains at most the slack: both sides times its denominator, the player's scale and the total
 abbrev pub GainsNoMore : Side → GameView → Slack → List Entry → Trigger → List ℕ → Type 0
 GainsNoMore side g slack list trigger choice =

@@ -3,6 +3,7 @@ pub mod Deviation
 pub mod Distribution
 pub mod Equilibrium
 pub mod FullChoice
+pub mod Leaves
 pub mod OwnSequence
 pub mod Reach
 pub mod ReachedPoint

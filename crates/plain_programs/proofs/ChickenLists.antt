@@ -15,7 +15,7 @@ use Rattle.corr_game.specs.Walk.{walk}
 use Rattle.equilibrium.specs.declared.triggers.Trigger.TheVariants.{Told, Reached, Start}
 use Rattle.equilibrium.specs.Deviation.{following, leaving}
 use Rattle.equilibrium.specs.Distribution.{total}
-use Rattle.equilibrium.specs.Equilibrium.{IsEquilibriumList, Slack}
+use Rattle.equilibrium.specs.Equilibrium.{IsEquilibriumList, no_slack}
 use Rattle.equilibrium.specs.FullChoice.{IsFullChoice}
 use Rattle.equilibrium.specs.Reach.{comes_to}
 use Rattle.equilibrium.proofs.Nesting.{no_more}
@@ -24,9 +24,6 @@ use Rattle.sample_games.specs.Games.{chicken_game}
 
 abbrev first_set : SetId
 first_set = record { 0 = 0 }
-
-abbrev no_slack : Slack
-no_slack = record { num = 0; den = 1 }
 
 follows_20 : following One chicken_game one_chickens_out ≡ pos 20
 unfolding sum_over walk from_last chicken_game

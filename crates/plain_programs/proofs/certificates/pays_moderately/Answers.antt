@@ -1,5 +1,5 @@
 -- Both players' payoffs, and no others.
-use Rattle.std.proofs.Common.{ℕ, ◌<◌, ◌≤◌, ◌^◌, unsigned_abs, rules}
+use Rattle.std.proofs.Common.{rules}
 use Rattle.corr_game.specs.declared.sides.Side.{Side}
 use Rattle.corr_game.specs.declared.sides.Side.TheVariants.{One, Two}
 use Rattle.plain_programs.proofs.certificates.pays_moderately.Goals as goal
