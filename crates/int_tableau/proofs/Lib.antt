@@ -7,4 +7,5 @@ pub mod Pivoting
 pub mod Pushing
 pub mod Reaching
 pub mod Starting
+pub mod StartPivots
 pub mod StartStored

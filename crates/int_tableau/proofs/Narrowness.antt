@@ -7,7 +7,7 @@ use Rattle.corr_game.specs.declared.sides.Side.TheVariants.{One, Two}
 use Rattle.corr_num.specs.Narrow.{Narrow}
 use Rattle.lp_form.specs.Program.{LpView, coefficient, right_of, payoff_of}
 use Rattle.lp_form.specs.Small.{IsSmall}
-use Rattle.int_tableau.specs.Start.{StartsNarrow, behind_program, column_sum, payoff_entry, program_entry, start_entry}
+use Rattle.int_tableau.specs.Start.{StartsNarrow, behind_program, column_sum, payoff_entry, program_entry}
 
 either_narrow : (b : Bool) (x y : ℤ) → Narrow x → Narrow y → Narrow (cond b x y)
 either_narrow true x y h k = h

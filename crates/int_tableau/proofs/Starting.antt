@@ -10,7 +10,7 @@ use Rattle.int_tableau.specs.Content.{Content}
 use Rattle.int_tableau.specs.Reached.{IsReachedFrom}
 use Rattle.int_tableau.specs.Start.{start_entry, IsStart}
 
-artificial : (lp : LpView) (k c : ℕ) → k < length lp.rows → c < length lp.rows → start_entry lp c (lp.cols + k) ≡ unit k c
+pub artificial : (lp : LpView) (k c : ℕ) → k < length lp.rows → c < length lp.rows → start_entry lp c (lp.cols + k) ≡ unit k c
 artificial lp k c h l =
     let program : nat_lt c (length lp.rows) ≡ true = lt-ltb c (length lp.rows) l in
     let behind : nat_lt (lp.cols + k) lp.cols ≡ false = le-ltb (lp.cols + k) lp.cols (omega arith) in
@@ -25,7 +25,7 @@ nothing true y = refl
 nothing false true = refl
 nothing false false = refl
 
-free : (lp : LpView) (i k : ℕ) → length lp.rows ≤ i → i < length lp.rows + 3 → k < length lp.rows → start_entry lp i (lp.cols + k) ≡ pos 0
+pub free : (lp : LpView) (i k : ℕ) → length lp.rows ≤ i → i < length lp.rows + 3 → k < length lp.rows → start_entry lp i (lp.cols + k) ≡ pos 0
 free lp i k low high h =
     let cost : nat_lt i (length lp.rows) ≡ false = le-ltb i (length lp.rows) low in
     let behind : nat_lt (lp.cols + k) lp.cols ≡ false = le-ltb (lp.cols + k) lp.cols (omega arith) in

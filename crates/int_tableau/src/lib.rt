@@ -15,8 +15,8 @@ mod tableaus;
 pub use dense::Dense;
 pub use ends::PivotEnd;
 pub use laws::{
-    one_basis_has_one_tableau, pivots_keep_the_start, small_programs_start_narrow,
-    starts_are_reached,
+    one_basis_has_one_tableau, pivoting_at_an_artificial_one_changes_nothing,
+    pivots_keep_the_start, small_programs_start_narrow, starts_are_reached,
 };
 pub use lp_form::{NumList, Place, RowName};
 pub use starts::starts_narrow;
