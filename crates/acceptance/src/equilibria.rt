@@ -91,12 +91,15 @@ fn drawn_games(rt: HostRuntime) -> Result<(), Fail> {
 }
 
 /// Whether a plan takes an action at its first set.
-fn begins(plan: &Plan, action: usize) -> bool {
-    plan.len() > 0 && *plan.at(0) == Some(action)
+fn begins(plan: &Plan, action: u32) -> bool {
+    match plan.entries().first() {
+        Some(Some(named)) => *named == action,
+        _ => false,
+    }
 }
 
 /// The weight with which both players take these actions at their first sets.
-fn weight_of(rt: &impl Abort, pairs: &PairList, one: usize, two: usize) -> i128 {
+fn weight_of(rt: &impl Abort, pairs: &PairList, one: u32, two: u32) -> i128 {
     let mut sum = 0;
     for k in 0..pairs.len() {
         let pair = pairs.at(k);

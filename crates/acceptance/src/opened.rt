@@ -26,12 +26,17 @@ pub struct Opened {
     pub pairs: Pairs,
 }
 
+/// The game with whole amounts, which need not be one that is solved.
+pub fn game_of(rt: &impl Abort, alloc: Global, text: &str) -> Result<Game, Fail> {
+    let bytes = text.as_bytes();
+    assert!(rt; bytes.len() <= 1_000_000);
+    Ok(scale(alloc, build(alloc, read_lines(alloc, bytes)?)?)?)
+}
+
 pub fn open(rt: &impl Abort, alloc: Global, text: &str) -> Result<Opened, Fail>
     ensures { IfOk result (λ opened. IsPairsOf opened.game opened.pairs) }
 {
-    let bytes = text.as_bytes();
-    assert!(rt; bytes.len() <= 1_000_000);
-    let game = scale(alloc, build(alloc, read_lines(alloc, bytes)?)?)?;
+    let game = game_of(rt, alloc, text)?;
     let seqs = Seqs::of(alloc, &game, recall(alloc, &game)?)?;
     let pairs = Pairs::of(alloc, &game, seqs)?;
     Ok(Opened { game, pairs })

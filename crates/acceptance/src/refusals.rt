@@ -1,51 +1,8 @@
 // Files that are refused, and the line that says why.
+use crate::games::{FORGETFUL, LETTERS};
 use crate::runs::expect_text;
 use corr_run::Status;
 use std::test::Fail;
-
-/// Two letters are drawn, and each player sees one of them.
-const LETTERS: &str = r#"EFG 2 R "Letters" { "A" "B" }
-c "" 1 { "aa" 1/4 "ab" 1/4 "ba" 1/4 "bb" 1/4 } 0
-p "" 1 1 { "x" "y" } 0
-p "" 2 1 { "x" "y" } 0
-t "" 0
-t "" 0
-p "" 2 1 0
-t "" 0
-t "" 0
-p "" 1 1 0
-p "" 2 2 { "x" "y" } 0
-t "" 0
-t "" 0
-p "" 2 2 0
-t "" 0
-t "" 0
-p "" 1 2 { "x" "y" } 0
-p "" 2 1 0
-t "" 0
-t "" 0
-p "" 2 1 0
-t "" 0
-t "" 0
-p "" 1 2 0
-p "" 2 2 0
-t "" 0
-t "" 0
-p "" 2 2 0
-t "" 0
-t "" 0
-"#;
-
-/// The second set of player 1 stands behind both of the player's first moves.
-const FORGETFUL: &str = r#"EFG 2 R "Forget" { "A" "B" }
-p "" 1 1 { "L" "R" } 0
-p "" 2 1 { "m" } 0
-p "" 1 2 { "a" } 0
-t "" 0
-p "" 2 1 0
-p "" 1 2 0
-t "" 0
-"#;
 
 /// The root's set holds the root's kid too.
 const ABSENT: &str = r#"EFG 2 R "Absent" { "A" "B" }
