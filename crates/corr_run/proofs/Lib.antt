@@ -3,7 +3,9 @@ pub mod Endings
 pub mod Errors
 pub mod FirstRefusals
 pub mod OneFileRefused
+pub mod OneGameScaled
 pub mod OneRecall
+pub mod OneRefusal
 pub mod OneSize
 pub mod OneTriangle
 pub mod Ordering

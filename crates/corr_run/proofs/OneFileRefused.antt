@@ -1,5 +1,5 @@
 -- Bytes are one file, so their lines keep all rules or break a first one, and not both.
-use Rattle.std.proofs.Common.{◌≡◌, ℕ, List, Some, Ok, ap, subst, sym, ◌∙◌}
+use Rattle.std.proofs.Common.{◌≡◌, ℕ, List, Ok, ap, subst, sym, ◌∙◌}
 use Rattle.efg_lines.specs.File.{FileView}
 use Rattle.efg_lines.specs.FileTokens.{IsFileOf}
 use Rattle.efg_lines.proofs.OneFile.{one_file}

@@ -1,5 +1,5 @@
 -- A notion's program has one size, since each number of its sums is determined; so programs that fit are refused for no size.
-use Rattle.std.proofs.Common.{◌≡◌, ◌⊎◌, ℕ, ◌+◌, ◌*◌, zero, suc, List, [], ◌∷◌, Option, Some, None, arith, ap, sym, ◌∙◌, inl, inr, subst, slice_get}
+use Rattle.std.proofs.Common.{◌≡◌, ℕ, ◌+◌, ◌*◌, zero, suc, List, [], ◌∷◌, Option, Some, None, arith, ap, sym, ◌∙◌, inl, inr, slice_get}
 use Rattle.connected_pairs.specs.Connected.{PairsView, IsTouched, other}
 use Rattle.corr_game.specs.declared.nodes.SetId.{SetId}
 use Rattle.corr_game.specs.declared.nodes.SetInfo.{SetInfo}
@@ -8,7 +8,7 @@ use Rattle.corr_game.specs.declared.notions.Notion.TheVariants.{Efce, Efcce, Nfc
 use Rattle.corr_game.specs.declared.sides.Side.{Side}
 use Rattle.corr_game.specs.declared.sides.Side.TheVariants.{One, Two}
 use Rattle.corr_game.specs.Game.{GameView, sets_of}
-use Rattle.incentive_rows.specs.Size.{HasRowBeside, HasRowsOfSet, HasCorrelationRows, CountsFor, HasCount, HasCountAt, HasTotalAt, HasTotal, HasIncentives, HasSize, row_each, value_each}
+use Rattle.incentive_rows.specs.Size.{HasRowBeside, HasRowsOfSet, HasCorrelationRows, CountsFor, HasCount, HasCountAt, HasTotalAt, HasTotal, HasSize, row_each, value_each}
 use Rattle.incentive_rows.specs.Sum.{IsSum, IsWhere}
 use Rattle.incentive_rows.specs.Trigger.{HasSet, TriggersAt}
 use Rattle.report_form.specs.declared.refusals.Refusal.{Refusal}

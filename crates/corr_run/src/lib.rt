@@ -16,7 +16,10 @@ mod status;
 mod top;
 
 pub use command_words::{Command, Notions, read_words};
-pub use laws::{bytes_say_one_game, no_refusal_of_a_game, one_refusal_a_step};
+pub use laws::{
+    accepted_bytes_are_not_refused, bytes_are_refused_once, bytes_say_one_game,
+    no_refusal_of_a_game, one_refusal_a_step,
+};
 pub use prepare::{Ready, ReadyEnd};
 pub use status::Status;
 pub use top::run;

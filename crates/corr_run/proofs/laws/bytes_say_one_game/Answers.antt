@@ -1,5 +1,9 @@
 use Rattle.corr_run.proofs.OneFileRefused.{one_game}
+use Rattle.corr_run.proofs.OneGameScaled.{one_scaled}
 use Rattle.corr_run.proofs.laws.bytes_say_one_game.Goals as goal
 
-pub returns : goal.returns
-returns c = one_game
+pub returns-clause-said : goal.returns-clause-said
+returns-clause-said c = one_game
+
+pub returns-clause-scaled : goal.returns-clause-scaled
+returns-clause-scaled c = one_scaled

@@ -1,5 +1,6 @@
 use Rattle.efg_lines.proofs.SyntaxPlace.{no_file_there}
 use Rattle.corr_run.proofs.OneFileRefused.{no_lines_refusal}
+use Rattle.corr_run.proofs.OneGameScaled.{no_scales_refusal}
 use Rattle.corr_run.proofs.OneRecall.{no_recall_refusal}
 use Rattle.corr_run.proofs.OneSize.{no_size}
 use Rattle.corr_run.proofs.OneTriangle.{no_triangle_refusal}
@@ -19,3 +20,6 @@ returns-clause-triangle c = λ bytes g p refusal game of. no_triangle_refusal g 
 
 pub returns-clause-sizes : goal.returns-clause-sizes
 returns-clause-sizes c = λ notions bytes g p refusal game of. no_size g p notions refusal game.fit of
+
+pub returns-clause-scales : goal.returns-clause-scales
+returns-clause-scales c = no_scales_refusal

@@ -1,4 +1,5 @@
 use Rattle.corr_run.proofs.OneFileRefused.{one_lines_refusal}
+use Rattle.corr_run.proofs.OneGameScaled.{one_scales_refusal}
 use Rattle.corr_run.proofs.OneRecall.{one_recall_refusal}
 use Rattle.corr_run.proofs.OneSize.{one_size}
 use Rattle.corr_run.proofs.OneTriangle.{one_triangle_refusal}
@@ -15,3 +16,6 @@ returns-clause-triangle c = one_triangle_refusal
 
 pub returns-clause-sizes : goal.returns-clause-sizes
 returns-clause-sizes c = λ notions g p a b x y. one_size g p notions a b x y
+
+pub returns-clause-scales : goal.returns-clause-scales
+returns-clause-scales c = one_scales_refusal
