@@ -3,6 +3,7 @@ pub mod Fairness
 pub mod Going
 pub mod Joining
 pub mod Least
+pub mod ListSums
 pub mod Parts
 pub mod Ranges
 pub mod Rest

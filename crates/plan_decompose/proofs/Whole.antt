@@ -16,12 +16,12 @@ use Rattle.sequences.proofs.Adding.{within}
 use Rattle.connected_pairs.specs.Connected.{PairsView, IsPairs, IsPairsOf, are_connected, index_of, is_related, other, IsTouched}
 use Rattle.plan_decompose.specs.Entry.{AreTakenOff, IsLeast, NonePlayed, PlayBoth}
 use Rattle.plan_decompose.specs.Reduced.{IsReduced}
-use Rattle.plan_decompose.specs.Solution.{ArePositive, IsSolution, MeetsRows, positives, value_at, value_of}
+use Rattle.plan_decompose.specs.Solution.{ArePositive, MeetsRows, positives, value_at, value_of}
 use Rattle.plan_decompose.proofs.Going.{near_one, near_two, setting_one, setting_two}
 use Rattle.plan_decompose.proofs.Rest.{Loses, index_is, rows_kept}
 use Rattle.plan_decompose.proofs.Turns.{at_most_total, positives_fall, zero_or_more}
 
-past : (values : List ℤ) (k : ℕ) → length values ≤ k → slice_index_or values k (pos 0) ≡ pos 0
+pub past : (values : List ℤ) (k : ℕ) → length values ≤ k → slice_index_or values k (pos 0) ≡ pos 0
 past [] k h = refl
 past (z ∷ zs) zero h = absurd (omega arith)
 past (z ∷ zs) (suc k) h = past zs k (omega arith)
@@ -50,12 +50,12 @@ loses_two p rules old new one two weight off y x low_y low_x relevant =
     ]
 
 -- what is left meets the rows
-pub rows_left : (g : GameView) (p : PairsView) → IsPairsOf g p → IsPairs p → (old new : List ℤ) (one two : List (Option ℕ)) (weight : ℤ) → IsSolution p old → AreTakenOff p one two weight old new
+pub rows_left : (g : GameView) (p : PairsView) → IsPairsOf g p → IsPairs p → (old new : List ℤ) (one two : List (Option ℕ)) (weight : ℤ) → MeetsRows p old → AreTakenOff p one two weight old new
     → length new ≡ length p.pairs → IsPlan One g one → IsPlan Two g two → IsReduced p.seqs.one one → IsReduced p.seqs.two two
     → ((k : ℕ) (pair : ℕ × ℕ) → slice_get p.pairs k ≡ Some pair → PlayBoth p.seqs one two pair → weight ≤ℤ slice_index_or old k (pos 0)) → MeetsRows p new
-rows_left g p of rules old new one two weight s off count plan_one plan_two reduced_one reduced_two least =
-    let first = setting_one p old of rules s.rows in
-    let second = setting_two p old of rules s.rows in
+rows_left g p of rules old new one two weight met off count plan_one plan_two reduced_one reduced_two least =
+    let first = setting_one p old of rules met in
+    let second = setting_two p old of rules met in
     let kept_one = rows_kept p.seqs.one p.seqs.two (λ i k. are_connected p i k) (λ x y. value_of p old One x y) (λ x y. value_of p new One x y) one two weight (rules.sides One) (rules.sides Two) first.closed_v first.rows_v
     (loses_one p rules old new one two weight off) reduced_one (named_in One g p.seqs.one one (of.sides One) plan_one) in
     let kept_two = rows_kept p.seqs.two p.seqs.one (λ k i. are_connected p i k) (λ y x. value_of p old Two y x) (λ y x. value_of p new Two y x) two one weight (rules.sides Two) (rules.sides One) second.closed_v second.rows_v
@@ -69,7 +69,7 @@ rows_left g p of rules old new one two weight s off count plan_one plan_two redu
       not_negative = λ k. elim (cases_lt k (length new)) [
         | inl low ↦
             let pair = within p.pairs k (omega arith) in
-            let before = s.rows.not_negative k in
+            let before = met.not_negative k in
             elim (off k pair.0 pair.1) [
               | inl lost ↦ omega (arith, ints, lost.1, least k pair.0 pair.1 lost.0)
               | inr kept ↦ rw kept.1 before

@@ -29,6 +29,11 @@ pub data SumsTo (s : SeqsView) (pair : ℕ × ℕ) : List Pair → ℤ → Type 
   playing : (entry : Pair) (rest : List Pair) (sum : ℤ) → PlayBoth s entry.one entry.two pair → SumsTo s pair rest sum → SumsTo s pair (entry ∷ rest) (entry.weight +ℤ sum)
   not_playing : (entry : Pair) (rest : List Pair) (sum : ℤ) → (PlayBoth s entry.one entry.two pair → ⊥) → SumsTo s pair rest sum → SumsTo s pair (entry ∷ rest) sum
 
+-- the weights of the entries that play a relevant pair sum to its value
+abbrev pub AreSums : PairsView → List Pair → List ℤ → Type 0
+AreSums p list values =
+    (k : ℕ) (pair : ℕ × ℕ) → slice_get p.pairs k ≡ Some pair → SumsTo p.seqs pair list (slice_index_or values k (pos 0))
+
 -- a value has lost the weight where both plans play its pair of sequences, and is as it was where they don't
 abbrev pub LosesWeight : SeqsView → List (Option ℕ) → List (Option ℕ) → ℕ × ℕ → ℤ → ℤ → ℤ → Type 0
 LosesWeight s one two pair weight old new =

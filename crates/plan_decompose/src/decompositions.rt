@@ -1,7 +1,7 @@
 ghost use Rattle.std.specs.Prelude.{◌≡◌, ◌≤◌, ◌↔◌, ℕ, pos, length, slice_get, slice_index_or, All, IfOk, IsTrue, Some};
 ghost use Rattle.corr_num.specs.Narrow.{Narrow};
 ghost use Rattle.connected_pairs.specs.Connected.{IsPairsOf};
-ghost use Rattle.plan_decompose.specs.Entry.{IsEntry, SumsTo};
+ghost use Rattle.plan_decompose.specs.Entry.{AreSums, IsEntry};
 ghost use Rattle.plan_decompose.specs.Solution.{IsSolution};
 
 use crate::entries::take_entry;
@@ -22,8 +22,7 @@ pub fn decompose(
     requires narrow { All Narrow values }
     requires solution { IsSolution pairs.now values }
     ensures entries { IfOk result (λ list. All (IsEntry game.now pairs.now.seqs) list) }
-    ensures sums { IfOk result
-        (λ list. (k : ℕ) (pair : ℕ × ℕ) → slice_get pairs.now.pairs k ≡ Some pair → SumsTo pairs.now.seqs pair list (slice_index_or values k (pos 0))) }
+    ensures sums { IfOk result (λ list. AreSums pairs.now list values) }
     ensures some { IfOk result (λ list. 1 ≤ length list) }
     ensures few { IfOk result (λ list. length list ≤ length pairs.now.pairs) }
 {

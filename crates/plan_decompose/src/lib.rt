@@ -8,9 +8,11 @@
 mod actions;
 mod decompositions;
 mod entries;
+mod laws;
 mod opens;
 mod picks;
 mod walks;
 
 pub use decompositions::decompose;
+pub use laws::{sums_of_reduced_plans_meet_the_rows, two_lists_together_add_their_sums};
 pub use picks::pick;

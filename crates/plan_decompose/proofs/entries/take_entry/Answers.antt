@@ -56,7 +56,7 @@ returns-clause-rows c =
     let value = slice_index_or c.args.values.now c.unwrap-least.result (pos 0) in
     let back = narrow_returned value (c.requires.narrow c.unwrap-least.result (pos 0) least.in_range) in
     let plans = c.in_ok-one.ensures in
-    rows_left c.args.game.now c.args.pairs.now c.requires.whose c.requires.rules c.args.values.now c.take_off.new.values c.in_ok-one.one c.in_ok-one.two value c.requires.solution (rw back at c.take_off.ensures) (c.take_off.auto.values ∙ c.requires.per_pair)
+    rows_left c.args.game.now c.args.pairs.now c.requires.whose c.requires.rules c.args.values.now c.take_off.new.values c.in_ok-one.one c.in_ok-one.two value c.requires.solution.rows (rw back at c.take_off.ensures) (c.take_off.auto.values ∙ c.requires.per_pair)
     plans.plan_one plans.plan_two plans.reduced_one plans.reduced_two least.least
 
 pub unwrap-least-requires : goal.unwrap-least-requires
