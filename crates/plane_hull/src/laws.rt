@@ -6,7 +6,7 @@ ghost use Rattle.plane_hull.specs.Belt.{AreFourAxes, IsBelt, StandAtCorners};
 ghost use Rattle.plane_hull.specs.BeltFault.{IsFaultOf};
 ghost use Rattle.plane_hull.specs.Inside.{IsInside, PlanePoint};
 ghost use Rattle.plane_hull.specs.Mixture.{IsMixture};
-ghost use Rattle.plane_hull.specs.StrictPolygon.{AreCornersInside, CornersNeeded};
+ghost use Rattle.plane_hull.specs.StrictPolygon.{AreCornersInside, AreFractions, CornersNeeded, IsStrictPolygon};
 
 /// Sides that are no belt have at most one number of their fault.
 pub fn faults_have_one_number()
@@ -31,4 +31,13 @@ pub fn points_inside_are_mixtures()
 pub fn corners_are_needed()
     ensures { (one two : ℤ) (points : List Point) (sides : List SideRow)
         → AreCornersInside one two points sides → CornersNeeded points }
+{}
+
+/// A belt is a strict polygon exactly where its corners lie inside.
+pub fn belts_with_their_corners_inside_are_strict()
+    ensures strict { (one two : ℤ) (points : List Point) (sides : List SideRow)
+        → AreCornersInside one two points sides → IsStrictPolygon one two points sides }
+    ensures back { (one two : ℤ) (points : List Point) (sides : List SideRow) → pos 0 <ℤ one → pos 0 <ℤ two → AreFractions points
+        → 0 < length points → StandAtCorners (length points) sides → IsStrictPolygon one two points sides
+        → AreCornersInside one two points sides }
 {}

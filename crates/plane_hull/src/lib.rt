@@ -16,7 +16,8 @@ pub use angles::cmp_angle;
 pub use belts::{BeltFault, belt};
 pub use directions::Dir;
 pub use laws::{
-    a_point_has_four_sides, corners_are_needed, faults_have_one_number, points_inside_are_mixtures,
+    a_point_has_four_sides, belts_with_their_corners_inside_are_strict, corners_are_needed,
+    faults_have_one_number, points_inside_are_mixtures,
 };
 pub use sides::{Point, SideList, SideRow};
 
