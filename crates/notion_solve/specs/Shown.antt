@@ -1,5 +1,5 @@
 -- What a block shows of a program (von Stengel and Forges 2008; the duality of linear programs, Dantzig 1963): corners that solutions
--- reach, sides that none passes, or that there is no solution.
+-- reach, sides that none passes, that there is no solution, or a basis at which the method is too wide.
 use Rattle.std.specs.Prelude.{◌≡◌, ℕ, ℤ, List, Some, slice_get, All}
 use Rattle.corr_game.specs.declared.notions.Notion.{Notion}
 use Rattle.corr_game.specs.declared.sides.Side.TheVariants.{One, Two}
@@ -9,6 +9,7 @@ use Rattle.plan_decompose.specs.Entry.{SumsTo}
 use Rattle.lp_form.specs.Certificates.{ShowEmpty}
 use Rattle.lp_form.specs.Program.{LpView}
 use Rattle.lp_form.specs.Solutions.{IsSolution, paid}
+use Rattle.bland_simplex.specs.Reachable.{IsWideBasis}
 use Rattle.polygon_sweep.specs.declared.corners.SweptCorner.{SweptCorner}
 use Rattle.report_form.specs.Certified.{IsCertified, IsPointIn}
 use Rattle.report_form.specs.declared.reports.Block.{Block}
@@ -33,7 +34,7 @@ pub record IsReached (g : GameView) (p : PairsView) (lp : LpView) (corner : Corn
 abbrev pub IsShown : GameView → PairsView → LpView → Block → Type 0
 IsShown g p lp (Found corners sides) = All (IsReached g p lp) corners × All (IsCertified g lp corners) sides
 IsShown g p lp (Empty multipliers) = ShowEmpty lp multipliers
-IsShown g p lp (TooWide basis place) = Unit {0}
+IsShown g p lp (TooWide basis place) = IsWideBasis lp basis place
 
 -- the block is shown of the notion's program
 abbrev pub IsShownFor : GameView → PairsView → Notion → Block → Type 0

@@ -1,7 +1,8 @@
-ghost use Rattle.std.specs.Prelude.{◌≡◌, ◌≤◌, ℕ, length, IfOk};
+ghost use Rattle.std.specs.Prelude.{◌≡◌, ◌≤◌, ℕ, length, IfErr, IfOk};
 ghost use Rattle.connected_pairs.specs.Connected.{IsPairsOf};
 ghost use Rattle.incentive_rows.specs.Size.{HasSize};
 ghost use Rattle.bland_simplex.specs.Open.{IsProgram};
+ghost use Rattle.bland_simplex.specs.Reachable.{IsLeftWide};
 ghost use Rattle.int_tableau.specs.Content.{IsTableau};
 ghost use Rattle.int_tableau.specs.Start.{IsStart};
 ghost use Rattle.polygon_sweep.specs.Swept.{IsSwept};
@@ -40,7 +41,8 @@ fn explore<T: Tableau>(alloc: Global, lp: &Lp, table: &mut T) -> Result<Outcome,
     requires start { IsStart lp.now (T.content table.old) }
     requires rules { IsTableau (T.content table.old) }
     requires bounded { HasBoundedPayoffs lp.now }
-    ensures { IfOk result (IsOutcome lp.now) }
+    ensures outcome { IfOk result (IsOutcome lp.now) }
+    ensures wide { IfErr result (IsLeftWide lp.now (T.content table.new)) }
 {
     match feasible(alloc, lp, table)? {
         Found::Start => Ok(Outcome::Polygon(sweep(alloc, lp, table)?)),

@@ -3,7 +3,7 @@
 //! `solve` makes the notion's program, leads a tableau through both phases of the simplex method and once round the
 //! polygon of payoffs, and hands each corner's solution to the decomposition into pairs of plans. It stands on all crates
 //! of the solver. The layer above uses that every number of the block is in a report's ranges, and what the block shows of
-//! the notion's program (`IsShownFor`).
+//! the notion's program (`IsShownFor`), also where it is too wide.
 #![tactic(auto)]
 
 mod blocks;
