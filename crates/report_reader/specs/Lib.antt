@@ -1,2 +1,4 @@
 pub mod Cursor
+pub mod Pieces
 pub mod Place
+pub mod Syntax
