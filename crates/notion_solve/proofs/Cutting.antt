@@ -3,8 +3,7 @@ use Rattle.std.proofs.Common.{◌≡◌, ℕ, ◌<◌, ℤ, pos, List, length, t
 use Rattle.std.proofs.lemmas.Int.{ints}
 use Rattle.std.proofs.lemmas.List.{get_or-take, length-take-le}
 use Rattle.connected_pairs.specs.Connected.{PairsView}
-use Rattle.triangle_test.specs.Triangle.{IsTriangle}
-use Rattle.triangle_test.specs.declared.triangles.Quad.{Quad}
+use Rattle.triangle_test.specs.Triangle.{HasNoTriangle}
 use Rattle.lp_form.specs.Program.{LpView}
 use Rattle.polygon_sweep.specs.declared.corners.SweptCorner.{SweptCorner}
 use Rattle.polygon_sweep.specs.Swept.{IsCornerOf, number_in}
@@ -22,7 +21,7 @@ cut_meets p lp corner values over at cut =
 pub cut_total : (p : PairsView) (lp : LpView) (corner : SweptCorner) (values : List ℤ) → IsOverRows p lp → IsCornerOf lp corner → values ≡ take (length p.pairs) corner.values → value_of p values One 0 0 ≡ corner.den
 cut_total p lp corner values over at cut = (cut_meets p lp corner values over at cut).1
 
-pub cut_solution : (p : PairsView) (lp : LpView) (corner : SweptCorner) (values : List ℤ) → IsOverRows p lp → IsCornerOf lp corner → values ≡ take (length p.pairs) corner.values → ((quad : Quad) → IsTriangle p quad → ⊥)
+pub cut_solution : (p : PairsView) (lp : LpView) (corner : SweptCorner) (values : List ℤ) → IsOverRows p lp → IsCornerOf lp corner → values ≡ take (length p.pairs) corner.values → HasNoTriangle p
     → IsSolution p values
 cut_solution p lp corner values over at cut none =
     let met = cut_meets p lp corner values over at cut in

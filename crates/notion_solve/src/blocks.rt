@@ -8,8 +8,7 @@ ghost use Rattle.int_tableau.specs.Start.{IsStart};
 ghost use Rattle.polygon_sweep.specs.Swept.{IsSwept};
 ghost use Rattle.lp_form.specs.Program.{LpView};
 ghost use Rattle.lp_form.specs.Solutions.{HasBoundedPayoffs};
-ghost use Rattle.triangle_test.specs.Triangle.{IsTriangle};
-ghost use Rattle.triangle_test.specs.declared.triangles.Quad.{Quad};
+ghost use Rattle.triangle_test.specs.Triangle.{HasNoTriangle};
 ghost use Rattle.notion_solve.specs.Outcome.{IsOutcome};
 ghost use Rattle.notion_solve.specs.Programs.{IsOverRows};
 ghost use Rattle.notion_solve.specs.Shown.{IsShown, IsShownFor};
@@ -54,7 +53,7 @@ fn explore<T: Tableau>(alloc: Global, lp: &Lp, table: &mut T) -> Result<Outcome,
 /// the basis whose tableau is too wide.
 pub fn solve(alloc: Global, game: &Game, pairs: &Pairs, notion: Notion) -> Result<Block, NoMemory>
     requires whose { IsPairsOf game.now pairs.now }
-    requires no_triangle { (quad : Quad) → IsTriangle pairs.now quad → ⊥ }
+    requires no_triangle { HasNoTriangle pairs.now }
     requires size { (rows columns : ℕ) × HasSize game.now pairs.now notion rows columns × (rows ≤ 2048) × (columns ≤ 8192) }
     ensures ranges { IfOk result IsBlock }
     ensures spread { IfOk result (AreSpread pairs.now) }
@@ -73,7 +72,7 @@ pub fn solve(alloc: Global, game: &Game, pairs: &Pairs, notion: Notion) -> Resul
 /// The block of a polygon.
 fn found(alloc: Global, game: &Game, pairs: &Pairs, swept: Swept) -> Result<Block, NoMemory>
     requires whose { IsPairsOf game.now pairs.now }
-    requires no_triangle { (quad : Quad) → IsTriangle pairs.now quad → ⊥ }
+    requires no_triangle { HasNoTriangle pairs.now }
     requires few { length pairs.now.pairs ≤ 8192 }
     requires swept { (lp : LpView) × IsSwept lp swept × IsOverRows pairs.now lp }
     ensures ranges { IfOk result IsBlock }

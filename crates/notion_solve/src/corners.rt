@@ -6,8 +6,7 @@ ghost use Rattle.corr_num.specs.Narrow.{Narrow};
 ghost use Rattle.polygon_sweep.specs.Swept.{IsCornerOf};
 ghost use Rattle.report_form.specs.Ranges.{IsCorner, IsScale};
 ghost use Rattle.lp_form.specs.Program.{LpView};
-ghost use Rattle.triangle_test.specs.Triangle.{IsTriangle};
-ghost use Rattle.triangle_test.specs.declared.triangles.Quad.{Quad};
+ghost use Rattle.triangle_test.specs.Triangle.{HasNoTriangle};
 ghost use Rattle.notion_solve.specs.Programs.{IsOverRows};
 ghost use Rattle.notion_solve.specs.Shown.{ArePointsOf, IsReached};
 ghost use Rattle.report_form.specs.Certified.{IsPointIn};
@@ -77,7 +76,7 @@ fn corner_of(
     corner: &SweptCorner,
 ) -> Result<Corner, NoMemory>
     requires whose { IsPairsOf game.now pairs.now }
-    requires no_triangle { (quad : Quad) → IsTriangle pairs.now quad → ⊥ }
+    requires no_triangle { HasNoTriangle pairs.now }
     requires few { length pairs.now.pairs ≤ 8192 }
     requires corner { (lp : LpView) × IsCornerOf lp corner.now × IsOverRows pairs.now lp }
     ensures ranges { IfOk result IsCorner }
@@ -103,7 +102,7 @@ pub fn corners_of(
     swept: &CornerList,
 ) -> Result<Corners, NoMemory>
     requires whose { IsPairsOf game.now pairs.now }
-    requires no_triangle { (quad : Quad) → IsTriangle pairs.now quad → ⊥ }
+    requires no_triangle { HasNoTriangle pairs.now }
     requires few { length pairs.now.pairs ≤ 8192 }
     requires swept { (lp : LpView) × All (IsCornerOf lp) swept.now × IsOverRows pairs.now lp }
     ensures count { IfOk result (λ corners. length corners ≡ length swept.now) }

@@ -6,14 +6,13 @@ use Rattle.corr_game.specs.declared.nodes.SetId.{SetId}
 use Rattle.corr_game.specs.declared.sides.Side.TheVariants.{One}
 use Rattle.sequences.specs.Number.{SideView, Plays, last_of}
 use Rattle.connected_pairs.specs.Connected.{PairsView}
-use Rattle.triangle_test.specs.Triangle.{IsTriangle}
-use Rattle.triangle_test.specs.declared.triangles.Quad.{Quad}
+use Rattle.triangle_test.specs.Triangle.{HasNoTriangle}
 
 -- what a walk needs to go on: rows that are met, a positive total, and no triangle
 pub record IsSolution (p : PairsView) (values : List ℤ) : Type 0 where
   pub rows : MeetsRows p values
   pub total : pos 1 ≤ℤ value_of p values One 0 0
-  pub no_triangle : (quad : Quad) → IsTriangle p quad → ⊥
+  pub no_triangle : HasNoTriangle p
 
 -- the relevant pairs of sequences that both plans play are positive
 abbrev pub ArePositive : (v w : SideView) → (ℕ → ℕ → Bool) → (ℕ → ℕ → ℤ) → List (Option ℕ) → List (Option ℕ) → Type 0

@@ -1,2 +1,4 @@
+pub mod ByTree
 pub mod Least
+pub mod OneKid
 pub mod Ruled

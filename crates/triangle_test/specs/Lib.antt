@@ -1,1 +1,3 @@
+pub mod PublicChance
+pub mod TreeTriangle
 pub mod Triangle

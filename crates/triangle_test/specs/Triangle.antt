@@ -17,6 +17,10 @@ pub record IsTriangle (p : PairsView) (q : Quad) : Type 0 where
   pub second : are_connected p q.one_b.0 q.two_b.0 ≡ true
   pub across : are_connected p q.one_a.0 q.two_b.0 ≡ true
 
+-- there is no triangle
+abbrev pub HasNoTriangle : PairsView → Type 0
+HasNoTriangle p = (quad : Quad) → IsTriangle p quad → ⊥
+
 -- no triangle has this first set of player 1
 abbrev pub NoneFrom : PairsView → ℕ → Type 0
 NoneFrom p one_a = (q : Quad) → q.one_a.0 ≡ one_a → IsTriangle p q → ⊥

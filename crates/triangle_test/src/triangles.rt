@@ -1,7 +1,7 @@
 ghost use Rattle.std.specs.Prelude.{◌≡◌, ◌<◌, ◌↔◌, ℕ, IfSome, IsTrue, None, length, false, true};
 ghost use Rattle.sequences.specs.Number.{side_of};
 ghost use Rattle.connected_pairs.specs.Connected.{IsPairsOf, are_connected};
-ghost use Rattle.triangle_test.specs.Triangle.{AreSiblings, IsLast, IsLeastFrom, IsLeastOver, IsLeastTriangle, IsLeastWith, IsMet, IsPartner, IsTriangle, NoneAcross, NoneFrom, NoneOf, NoneOver, NoneWith};
+ghost use Rattle.triangle_test.specs.Triangle.{AreSiblings, HasNoTriangle, IsLast, IsLeastFrom, IsLeastOver, IsLeastTriangle, IsLeastWith, IsMet, IsPartner, NoneAcross, NoneFrom, NoneOf, NoneOver, NoneWith};
 
 use connected_pairs::Pairs;
 use corr_game::{Game, SetId, Side};
@@ -19,7 +19,7 @@ pub struct Quad {
 pub fn triangle(game: &Game, pairs: &Pairs) -> Option<Quad>
     requires { IsPairsOf game.now pairs.now }
     ensures some { IfSome result (IsLeastTriangle pairs.now) }
-    ensures none { result ≡ None → (quad : Quad) → IsTriangle pairs.now quad → ⊥ }
+    ensures none { result ≡ None → HasNoTriangle pairs.now }
 {
     for one_a in 0..set_count(game, pairs, Side::One) {
         if let Some(quad) = triangle_from(game, pairs, SetId(one_a)) {
