@@ -1,2 +1,4 @@
+pub mod Leasts
+pub mod Parting
 pub mod Sequences
 pub mod Ways

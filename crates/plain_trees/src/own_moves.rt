@@ -105,7 +105,7 @@ fn are_alike_at(alloc: Global, game: &Game, side: Side, m: u32, n: u32) -> Resul
 }
 
 /// Whether two nodes are of one set of a player.
-fn are_of_one_set(game: &Game, side: Side, m: u32, n: u32) -> bool
+pub fn are_of_one_set(game: &Game, side: Side, m: u32, n: u32) -> bool
     requires m_in { m < length game.now.nodes }
     requires n_in { n < length game.now.nodes }
     ensures { IsTrue result ↔ AreOfOneSet game.now side m n }
@@ -117,7 +117,7 @@ fn are_of_one_set(game: &Game, side: Side, m: u32, n: u32) -> bool
 }
 
 /// Whether two sequences are the same, move by move.
-fn are_same(a: &[(SetId, usize)], b: &[(SetId, usize)]) -> bool
+pub fn are_same(a: &[(SetId, usize)], b: &[(SetId, usize)]) -> bool
     ensures { IsTrue result ↔ (a.now ≡ b.now) }
 {
     if a.len() != b.len() {

@@ -1,9 +1,13 @@
-use crate::{are_connected, are_relevant, has_recall, is_above, own_sequence};
+use crate::{
+    are_connected, are_relevant, has_public_chance, has_recall, is_above, least_triangle,
+    own_sequence,
+};
 use corr_game::{Game, SetId, Side};
 use sample_games::{chain, chicken, forgetful, letters, one_card, repeated};
 use std::alloc::{AllocError, Global};
 use std::process::Abort;
 use std::test::Fail;
+use triangle_test::Quad;
 
 /// The own moves on the path to a node that is there.
 fn moves_to(
@@ -67,5 +71,24 @@ fn relevant_pairs(rt: HostRuntime) -> Result<(), Fail> {
     assert!(rt; are_relevant(&game, &one_b, &two_b));
     assert!(rt; !are_relevant(&game, &one_b, &two_a));
     assert!(rt; are_relevant(&game, &one_b, &none));
+    Ok(())
+}
+
+// The letters make a triangle, and each of them is drawn for one player alone.
+#[test]
+fn triangles_and_public_chance(rt: HostRuntime) -> Result<(), Fail> {
+    let game = letters(rt.alloc())?;
+    let quad = Quad {
+        one_a: SetId(0),
+        one_b: SetId(1),
+        two_a: SetId(0),
+        two_b: SetId(1),
+    };
+    assert_eq!(rt; least_triangle(rt.alloc(), &game)?, Some(quad));
+    assert!(rt; !has_public_chance(&game));
+    let poker = one_card(rt.alloc())?;
+    assert_eq!(rt; least_triangle(rt.alloc(), &poker)?, None);
+    assert!(rt; !has_public_chance(&poker));
+    assert!(rt; has_public_chance(&chicken(rt.alloc())?));
     Ok(())
 }
