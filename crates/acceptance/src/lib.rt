@@ -8,7 +8,8 @@
 //! - `equilibria` asks the plain program of the definition whether each distribution that is found is an equilibrium
 //! - `lists` has distributions that were worked out by hand, held against the definition of equilibrium
 //! - `certificates` multiplies out that each side's multipliers bound each column of the program
-//! - `belts` goes round the sides: with the two before, a polygon is neither too small nor too large
+//! - `belts` goes round the sides: with `equilibria` and `certificates`, a polygon is neither too small nor too large
+//! - `trees` holds recall, connections, the least triangle and public chance against programs that go through all nodes
 #![tactic(auto)]
 
 #[cfg(test)]

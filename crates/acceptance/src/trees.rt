@@ -2,14 +2,17 @@
 ghost use Rattle.std.specs.Prelude.{◌≡◌, ℕ};
 ghost use Rattle.connected_pairs.specs.Connected.{IsPairsOf};
 
-use crate::games::{CHICKEN, COIN, DIAGONAL, DILEMMA, ENTRY, HEADS, ONE, ONE_CARD, SUMS};
+use crate::games::{CHICKEN, COIN, DIAGONAL, DILEMMA, ENTRY, FORGETFUL, HEADS, LETTERS, ONE};
+use crate::games::{ONE_CARD, SUMS};
 use crate::generated::{Draws, chain, public};
-use crate::opened::{Opened, open};
+use crate::opened::{Opened, game_of, open};
 use corr_game::{SetId, Side};
-use plain_trees::{are_connected, has_recall};
+use plain_trees::{are_connected, has_public_chance, has_recall, least_triangle};
 use std::alloc::Global;
 use std::process::Abort;
 use std::test::Fail;
+use tree_recall::recall;
+use triangle_test::{public_chance, triangle};
 
 /// Each two sets are connected in the solver's table exactly where they are in the tree.
 fn expect_connections(rt: &impl Abort, opened: &Opened)
@@ -26,19 +29,25 @@ fn expect_connections(rt: &impl Abort, opened: &Opened)
     }
 }
 
-/// A game that the solver takes: both players remember, and sets are connected as in its table.
+/// A game in which both players remember: sets are connected as in the solver's table, the least triangle is the one that it
+/// finds, and chance is public where it says so.
 fn expect_alike(rt: &impl Abort, alloc: Global, text: &str) -> Result<(), Fail> {
     let opened = open(rt, alloc, text)?;
     assert!(rt; has_recall(alloc, &opened.game, Side::One)?);
     assert!(rt; has_recall(alloc, &opened.game, Side::Two)?);
     expect_connections(rt, &opened);
+    assert_eq!(rt;
+        triangle(&opened.game, &opened.pairs),
+        least_triangle(alloc, &opened.game)?
+    );
+    assert_eq!(rt; public_chance(&opened.game), has_public_chance(&opened.game));
     Ok(())
 }
 
 #[test]
 fn known_games(rt: HostRuntime) -> Result<(), Fail> {
     for text in [
-        ONE, CHICKEN, DILEMMA, COIN, HEADS, ENTRY, ONE_CARD, SUMS, DIAGONAL,
+        ONE, CHICKEN, DILEMMA, COIN, HEADS, ENTRY, ONE_CARD, SUMS, DIAGONAL, LETTERS,
     ] {
         expect_alike(&rt, rt.alloc(), text)?;
     }
@@ -53,5 +62,24 @@ fn drawn_games(rt: HostRuntime) -> Result<(), Fail> {
         let coin = public(rt.alloc(), 1 + seed % 3, &mut Draws::new(u64::from(seed)))?;
         expect_alike(&rt, rt.alloc(), coin.as_str())?;
     }
+    Ok(())
+}
+
+// The letters that the players see are drawn apart, so chance isn't public, and player 1's sets, then player 2's, make the triangle.
+#[test]
+fn letters_make_a_triangle(rt: HostRuntime) -> Result<(), Fail> {
+    let game = game_of(&rt, rt.alloc(), LETTERS)?;
+    assert!(&rt; least_triangle(rt.alloc(), &game)?.is_some());
+    assert!(&rt; !has_public_chance(&game));
+    Ok(())
+}
+
+// Player 1 comes to the second set behind either first move; player 2 has one set.
+#[test]
+fn one_player_forgets(rt: HostRuntime) -> Result<(), Fail> {
+    let game = game_of(&rt, rt.alloc(), FORGETFUL)?;
+    assert!(&rt; !has_recall(rt.alloc(), &game, Side::One)?);
+    assert!(&rt; has_recall(rt.alloc(), &game, Side::Two)?);
+    assert!(&rt; recall(rt.alloc(), &game).is_err());
     Ok(())
 }
