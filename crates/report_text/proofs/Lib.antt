@@ -1,2 +1,3 @@
 pub mod Fractions
 pub mod Items
+pub mod Telling

@@ -6,12 +6,14 @@
 #![tactic(auto)]
 
 mod blocks;
+mod laws;
 mod lists;
 mod names;
 mod parts;
 mod refusals;
 mod reports;
 
+pub use laws::names_tell_apart;
 pub use parts::{add_frac, add_multipliers, add_pair, add_place, add_side};
 pub use refusals::write_refusal;
 pub use reports::write_report;
