@@ -2,7 +2,9 @@ mod CertifiedSides
 mod Faultless
 mod FirstBroken
 mod ColumnSums
+mod OneFault
 mod RestOfRow
+mod Accepted
 mod Sizes
 mod Whole
 pub mod Elements

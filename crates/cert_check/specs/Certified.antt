@@ -14,7 +14,6 @@ use Rattle.plane_hull.specs.declared.sides.SideRow.{SideRow}
 use Rattle.report_form.specs.Certified.{IsCertified, IsPointIn}
 use Rattle.report_form.specs.declared.reports.Block.{Block}
 use Rattle.report_form.specs.declared.reports.Block.TheVariants.{Found, Empty, TooWide}
-use Rattle.report_form.specs.declared.reports.Corner.{Corner}
 use Rattle.report_form.specs.declared.reports.NamedBlock.{NamedBlock}
 use Rattle.cert_check.specs.declared.programs.Program.{Program}
 use Rattle.cert_check.specs.declared.verdicts.Verdict.{Verdict}
@@ -34,10 +33,6 @@ pub record Passes (dir : Dir) (one two : ℤ) : Type 0 where
 pub record IsCertifiedAt (g : GameView) (lp : LpView) (point : Point) (side : SideRow) : Type 0 where
   pub multipliers : Certify lp side.dir.a side.dir.b side.den side.first side.second
   pub point_is : IsPointIn g point (slice_index_or side.first 0 (pos 0)) (slice_index_or side.second 0 (pos 0)) side.den
-
--- the points are those of the corners
-abbrev pub AreCornersPoints : List Corner → List Point → Type 0
-AreCornersPoints corners points = (k : ℕ) (corner : Corner) → slice_get corners k ≡ Some corner → slice_get points k ≡ Some corner.point
 
 -- what is certified of the notion's program: a polygon's sides, or that there is no solution
 abbrev pub IsCertifiedBlock : GameView → PairsView → Notion → Block → Type 0

@@ -1,12 +1,11 @@
 -- When a report is true of its game, and which verdict says so: the first rule that it breaks, in the order of its parts.
-use Rattle.std.specs.Prelude.{◌≡◌, ℕ, ◌<◌, ℤ, List, All, Some, slice_get, map}
+use Rattle.std.specs.Prelude.{◌≡◌, ℕ, ◌<◌, ℤ, List, All, Some, slice_get}
 use Rattle.lp_form.specs.declared.places.Place.{Place}
 use Rattle.corr_game.specs.declared.notions.Notion.{Notion}
 use Rattle.corr_game.specs.Game.{GameView}
 use Rattle.connected_pairs.specs.Connected.{PairsView}
 use Rattle.lp_form.specs.Program.{LpView}
 use Rattle.plan_polytope.specs.NotionProgram.{IsProgramOf}
-use Rattle.plane_hull.specs.declared.sides.Point.{Point}
 use Rattle.plane_hull.specs.declared.sides.SideRow.{SideRow}
 use Rattle.plane_hull.specs.Belt.{IsBelt}
 use Rattle.plane_hull.specs.BeltFault.{IsFaultOf}
@@ -14,6 +13,7 @@ use Rattle.report_form.specs.declared.reports.Block.{Block}
 use Rattle.report_form.specs.declared.reports.Block.TheVariants.{Found, Empty, TooWide as TooWideAt}
 use Rattle.report_form.specs.declared.reports.Corner.{Corner}
 use Rattle.report_form.specs.declared.reports.NamedBlock.{NamedBlock}
+use Rattle.report_form.specs.Points.{points_of}
 use Rattle.report_form.specs.View.{ReportView}
 use Rattle.cert_check.specs.declared.verdicts.Cause.{Cause}
 use Rattle.cert_check.specs.declared.verdicts.Cause.TheVariants.{Belt}
@@ -25,9 +25,6 @@ use Rattle.cert_check.specs.CornerRules.{CornerRule, corner_rules}
 use Rattle.cert_check.specs.Rules.{AllHold, IsFirstBroken}
 use Rattle.cert_check.specs.Scales.{HasScales}
 use Rattle.cert_check.specs.SideRules.{CertificateRule, EmptyRule, SideRule, cause_of, empty_rules, side_rules}
-
-abbrev pub points_of : List Corner → List Point
-points_of corners = map (λ corner. corner.point) corners
 
 -- all rules of a corner hold
 abbrev pub IsTrueCorner : GameView → Notion → Corner → Type 0

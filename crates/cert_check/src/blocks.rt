@@ -1,6 +1,6 @@
 ghost use Rattle.std.specs.Prelude.{◌≡◌, ◌↔◌, IsTrue, ◌<◌, ◌≤◌, All, IfOk, Ok, length};
 ghost use Rattle.cert_check.specs.declared.verdicts.Verdict.TheVariants.{NoScale};
-ghost use Rattle.cert_check.specs.Certified.{AreCertifiedBlocks, AreCornersPoints, IsAccepted, IsCertifiedBlock};
+ghost use Rattle.cert_check.specs.Certified.{AreCertifiedBlocks, IsAccepted, IsCertifiedBlock};
 ghost use Rattle.cert_check.specs.Scales.{HasScales};
 ghost use Rattle.lp_form.specs.Certificates.{ShowEmpty};
 ghost use Rattle.lp_form.specs.Program.{LpView};
@@ -9,6 +9,7 @@ ghost use Rattle.report_form.specs.Certified.{IsCertified};
 ghost use Rattle.corr_game.specs.Game.{IsGame};
 ghost use Rattle.corr_num.specs.Narrow.{Narrow};
 ghost use Rattle.connected_pairs.specs.Connected.{IsPairsOf};
+ghost use Rattle.report_form.specs.Points.{points_of};
 ghost use Rattle.report_form.specs.Ranges.{InOrderFrom, IsBlock, IsCorner, IsSide};
 ghost use Rattle.cert_check.specs.Fits.{AllFit, Fits};
 
@@ -168,8 +169,7 @@ fn check_sides(
 }
 
 fn points_of(alloc: Global, corners: &Corners) -> Result<Vec<Point>, NoMemory>
-    ensures count { IfOk result (λ points. length points.items ≡ length corners.now) }
-    ensures each { IfOk result (λ points. AreCornersPoints corners.now points.items) }
+    ensures { IfOk result (λ points. points.items ≡ points_of corners.now) }
 {
     let mut points = Vec::new(alloc);
     for k in 0..corners.len() {

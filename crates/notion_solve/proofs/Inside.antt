@@ -19,7 +19,8 @@ use Rattle.plane_hull.specs.Inside.{NoFurther, PlanePoint, corner_at}
 use Rattle.plane_hull.specs.StrictPolygon.{AreFractions}
 use Rattle.report_form.specs.Certified.{IsCertified}
 use Rattle.report_form.specs.declared.reports.Corner.{Corner}
-use Rattle.notion_solve.specs.Paid.{point_paid, points_of}
+use Rattle.report_form.specs.Points.{points_of}
+use Rattle.notion_solve.specs.Paid.{point_paid}
 
 -- the pay of a solution in direction (a, b), taken den times
 pay_over : (a b den p q s t od td : ℤ) → den *ℤ ((a *ℤ (s *ℤ (p *ℤ t)) +ℤ b *ℤ (t *ℤ (q *ℤ s))) *ℤ (od *ℤ td)) ≡ s *ℤ t *ℤ (od *ℤ td) *ℤ (den *ℤ (a *ℤ p +ℤ b *ℤ q))

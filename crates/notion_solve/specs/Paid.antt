@@ -1,12 +1,10 @@
 -- What numbers of a program's columns pay, as points of the plane of payoffs (von Stengel and Forges 2008).
-use Rattle.std.specs.Prelude.{List, ℤ, ◌*ℤ◌, ℕ, map}
+use Rattle.std.specs.Prelude.{ℤ, ◌*ℤ◌, ℕ}
 use Rattle.corr_game.specs.declared.sides.Side.TheVariants.{One, Two}
 use Rattle.corr_game.specs.Game.{GameView, scale_of}
 use Rattle.lp_form.specs.Program.{LpView}
 use Rattle.lp_form.specs.Solutions.{paid}
-use Rattle.plane_hull.specs.declared.sides.Point.{Point}
 use Rattle.plane_hull.specs.Inside.{PlanePoint}
-use Rattle.report_form.specs.declared.reports.Corner.{Corner}
 
 -- what numbers with a total pay both players on average, in the file's units
 abbrev pub point_paid : GameView → LpView → ℤ → (ℕ → ℤ) → PlanePoint
@@ -15,7 +13,3 @@ point_paid g lp total x = record {
   y = paid lp Two x *ℤ scale_of One g;
   den = total *ℤ (scale_of One g *ℤ scale_of Two g);
 }
-
--- the points of corners
-abbrev pub points_of : List Corner → List Point
-points_of corners = map (λ corner. corner.point) corners

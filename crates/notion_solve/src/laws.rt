@@ -10,7 +10,8 @@ ghost use Rattle.plane_hull.specs.Inside.{IsInside};
 ghost use Rattle.plane_hull.specs.StrictPolygon.{AreFractions};
 ghost use Rattle.report_form.specs.declared.reports.Block.TheVariants.{Found};
 ghost use Rattle.report_form.specs.declared.reports.Corner.{Corner};
-ghost use Rattle.notion_solve.specs.Paid.{point_paid, points_of};
+ghost use Rattle.report_form.specs.Points.{points_of};
+ghost use Rattle.notion_solve.specs.Paid.{point_paid};
 ghost use Rattle.notion_solve.specs.Shown.{IsShown};
 
 /// Whatever a solution of a program pays lies inside the sides of a polygon that is shown of it.

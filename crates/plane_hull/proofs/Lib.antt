@@ -8,6 +8,7 @@ pub mod InsideMeans
 pub mod Leaving
 pub mod Means
 pub mod MixturesInside
+pub mod OneFault
 pub mod PolygonOfBelt
 pub mod Reading
 pub mod RoundBelt
