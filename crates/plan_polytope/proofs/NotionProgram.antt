@@ -1,5 +1,5 @@
 -- A notion's program is the polytope with the incentive rows behind it.
-use Rattle.std.proofs.Common.{◌≡◌, ℕ, ◌+◌, ◌<◌, length, pos, refl}
+use Rattle.std.proofs.Common.{◌≡◌, ℕ, ◌+◌, ◌<◌, length, pos, refl, ◌∙◌}
 use Rattle.corr_game.specs.declared.notions.Notion.{Notion}
 use Rattle.corr_game.specs.declared.sides.Side.TheVariants.{One, Two}
 use Rattle.corr_game.specs.Game.{GameView}
@@ -23,6 +23,7 @@ pub record IsPolytope (g : GameView) (p : PairsView) (base : LpView) : Type 0 wh
 
 -- the second part
 pub record AreIncentives (g : GameView) (p : PairsView) (notion : Notion) (more : LpView) : Type 0 where
+  pub columns : (rows columns : ℕ) → HasSize g p notion rows columns → more.cols ≡ columns
   pub rows : (rows values : ℕ) → HasIncentives g p notion rows values → length more.rows ≡ rows
   pub of_one : (rows values : ℕ) → HasIncentives g p notion rows values → HasRowsFor notion g p One 0 0 (length p.pairs + values) more.cols more
   pub of_two : (rows values : ℕ) (size : HasIncentives g p notion rows values) → HasRowsFor notion g p Two size.rows_one size.values_one (length p.pairs + values) more.cols more
@@ -42,6 +43,7 @@ program_of_parts g p notion base more rows columns size first second = record {
   values = size.values;
   size = size.behind;
   count = second.rows size.incentives size.values size.behind;
+  all_columns = second.columns rows columns size ∙ size.all_columns;
   of_one = second.of_one size.incentives size.values size.behind;
   of_two = second.of_two size.incentives size.values size.behind;
 }

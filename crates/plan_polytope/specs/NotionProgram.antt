@@ -12,7 +12,7 @@ use Rattle.plan_polytope.specs.Payoffs.{ArePayoffs}
 use Rattle.plan_polytope.specs.Rows.{AreCorrelationRows}
 
 -- the program of a notion: the correlation rows and what the leaves pay, over the relevant pairs, and behind them the incentive rows of
--- both players' triggers
+-- both players' triggers; its columns are the pairs, the values, the floor and a slack for each incentive row
 pub record IsProgramOf (g : GameView) (p : PairsView) (notion : Notion) (lp : LpView) : Type 0 where
   pub base : LpView
   pub more : LpView
@@ -25,5 +25,6 @@ pub record IsProgramOf (g : GameView) (p : PairsView) (notion : Notion) (lp : Lp
   pub values : ℕ
   pub size : HasIncentives g p notion incentives values
   pub count : length more.rows ≡ incentives
+  pub all_columns : more.cols ≡ length p.pairs + values + 1 + incentives
   pub of_one : HasRowsFor notion g p One 0 0 (length p.pairs + values) more.cols more
   pub of_two : HasRowsFor notion g p Two size.rows_one size.values_one (length p.pairs + values) more.cols more

@@ -40,4 +40,4 @@ returns-clause-whose c =
     rw c.in_ok-lp.ensures.both
     (program_of_parts c.args.game.now c.args.pairs.now c.args.notion c.in_ok-base.base c.in_ok-more.more _ _ c.requires.size.2
     (record { columns = base.columns; a_row = base.a_row; correlation = base.correlation; payoffs = base.payoffs; total = base.total; others = base.other_rights })
-    (record { rows = more.rows; of_one = more.rows_of_one; of_two = more.rows_of_two; rights = more.rights }))
+    (record { columns = more.columns; rows = more.rows; of_one = more.rows_of_one; of_two = more.rows_of_two; rights = more.rights }))
