@@ -4,6 +4,7 @@ pub mod Errors
 pub mod FirstRefusals
 pub mod OneFileRefused
 pub mod OneGameScaled
+pub mod OnePairs
 pub mod OneRecall
 pub mod OneRefusal
 pub mod OneSize

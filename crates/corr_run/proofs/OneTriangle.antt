@@ -7,12 +7,12 @@ use Rattle.corr_game.specs.Game.{GameView}
 use Rattle.report_form.specs.declared.refusals.Refusal.{Refusal}
 use Rattle.report_form.specs.declared.refusals.Refusal.TheVariants.{Triangle}
 use Rattle.triangle_test.specs.declared.triangles.Quad.{Quad}
-use Rattle.triangle_test.specs.Triangle.{IsLeastTriangle, IsTriangle}
+use Rattle.triangle_test.specs.Triangle.{HasNoTriangle, IsLeastTriangle, IsTriangle}
 use Rattle.corr_run.specs.FirstRefusal.{IsOfTriangle}
 use Rattle.corr_run.proofs.OneRecall.{file_same}
 
 -- where there is no triangle none is told
-pub no_triangle_refusal : (g : GameView) (p : PairsView) → ((quad : Quad) → IsTriangle p quad → ⊥) → (refusal : Refusal) → IsOfTriangle g p refusal → ⊥
+pub no_triangle_refusal : (g : GameView) (p : PairsView) → HasNoTriangle p → (refusal : Refusal) → IsOfTriangle g p refusal → ⊥
 no_triangle_refusal g p none refusal of = none of.quad of.least.least.least.least.triangle
 
 neither_before : (m n : ℕ) → (m < n → ⊥) → (n < m → ⊥) → m ≡ n

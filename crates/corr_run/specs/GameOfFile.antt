@@ -1,6 +1,6 @@
 -- The game that some bytes say, step by step as a file is accepted: each record has the one before.
 use Rattle.std.specs.Prelude.{◌≡◌, ℕ, List, None}
-use Rattle.connected_pairs.specs.Connected.{IsPairsOf, PairsView}
+use Rattle.connected_pairs.specs.Connected.{IsPairs, IsPairsOf, PairsView}
 use Rattle.corr_game.specs.declared.sides.Side.{Side}
 use Rattle.corr_game.specs.Game.{GameView, IsGame}
 use Rattle.efg_lines.specs.File.{FileView}
@@ -10,8 +10,7 @@ use Rattle.efg_reader.specs.FirstRefusal.{file_refusal}
 use Rattle.efg_reader.specs.RawGame.{RawGameView}
 use Rattle.game_scale.specs.Scaled.{IsScaled}
 use Rattle.tree_recall.specs.OwnSequence.{HasRecall}
-use Rattle.triangle_test.specs.Triangle.{IsTriangle}
-use Rattle.triangle_test.specs.declared.triangles.Quad.{Quad}
+use Rattle.triangle_test.specs.Triangle.{HasNoTriangle}
 
 -- the bytes are a file whose lines break no rule, and this is the game that they say
 pub record SayGame (bytes : List ℕ) (raw : RawGameView) : Type 0 where
@@ -32,8 +31,9 @@ pub record SayRecalled (bytes : List ℕ) (g : GameView) (p : PairsView) : Type 
   pub rules : IsGame g
   pub recall : (side : Side) → HasRecall g side
   pub pairs : IsPairsOf g p
+  pub rules_of_pairs : IsPairs p
 
 -- so they do, and there is no triangle: a game that can be solved
 pub record IsGameOfBytes (bytes : List ℕ) (g : GameView) (p : PairsView) : Type 0 where
   pub say : SayRecalled bytes g p
-  pub no_triangle : (quad : Quad) → IsTriangle p quad → ⊥
+  pub no_triangle : HasNoTriangle p

@@ -57,3 +57,12 @@ pub fn accepted_bytes_are_not_refused()
     ensures { (bytes : List ℕ) (g : GameView) (p : PairsView) (refusal : Refusal) → IsGameOfBytes bytes g p
         → IsOfFile bytes refusal → (q : PairsView) × SayRecalled bytes g q × IsOfTriangle g q refusal }
 {}
+
+/// The game that some bytes say has one table of relevant pairs, and so one refusal for a triangle and one for sizes.
+pub fn a_said_game_has_one_table_of_pairs()
+    ensures pairs { (bytes : List ℕ) (g h : GameView) (p q : PairsView) → g ≡ h → SayRecalled bytes g p → SayRecalled bytes h q → p ≡ q }
+    ensures triangle { (bytes : List ℕ) (g h : GameView) (p q : PairsView) (a b : Refusal) → g ≡ h → SayRecalled bytes g p
+        → SayRecalled bytes h q → IsOfTriangle g p a → IsOfTriangle h q b → a ≡ b }
+    ensures sizes { (notions : List Notion) (bytes : List ℕ) (g h : GameView) (p q : PairsView) (a b : Refusal) → g ≡ h → SayRecalled bytes g p
+        → SayRecalled bytes h q → IsOfSizes g p notions a → IsOfSizes h q notions b → a ≡ b }
+{}

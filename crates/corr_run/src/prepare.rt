@@ -149,6 +149,7 @@ fn paired_game(alloc: Global, bytes: &[u8]) -> Result<Ready, ReadyEnd>
     let recalled = recalled_moves(alloc, &game)?;
     let seqs = Seqs::of(alloc, &game, recalled)?;
     let pairs = Pairs::of(alloc, &game, seqs)?;
+    let _ = pairs.len();
     Ok(Ready { game, pairs })
 }
 

@@ -3,8 +3,7 @@ ghost use Rattle.std.specs.Prelude.{◌≡◌, ◌≤◌, ◌^◌, ◌++◌, ◌
 ghost use Rattle.either.specs.Either.{MatchEither};
 ghost use Rattle.corr_game.specs.declared.notions.Notion.TheVariants.{Efce, Efcce, Nfcce};
 ghost use Rattle.connected_pairs.specs.Connected.{IsPairsOf};
-ghost use Rattle.triangle_test.specs.Triangle.{IsTriangle};
-ghost use Rattle.triangle_test.specs.declared.triangles.Quad.{Quad};
+ghost use Rattle.triangle_test.specs.Triangle.{HasNoTriangle};
 ghost use Rattle.report_form.specs.Ranges.{IsBlock, IsReport};
 ghost use Rattle.cert_check.specs.Scales.{HasScales};
 ghost use Rattle.corr_run.specs.FirstRefusal.{IsFirstRefusal, IsGameFor, IsOfSizes};
@@ -77,7 +76,7 @@ fn add_block(
     blocks: &mut BlockList,
 ) -> Result<(), NoMemory>
     requires whose { IsPairsOf ready.now.game ready.now.pairs }
-    requires no_triangle { (quad : Quad) → IsTriangle ready.now.pairs quad → ⊥ }
+    requires no_triangle { HasNoTriangle ready.now.pairs }
     requires size { FitPrograms ready.now.game ready.now.pairs (cond is_selected (notion ∷ []) []) }
     requires before { AreWhole blocks.old }
     requires shown_before { AreShown ready.now.game ready.now.pairs blocks.old }
@@ -96,7 +95,7 @@ fn add_block(
 /// The blocks of the selected notions, in order.
 fn blocks_of(alloc: Global, ready: &Ready, notions: Notions) -> Result<BlockList, NoMemory>
     requires whose { IsPairsOf ready.now.game ready.now.pairs }
-    requires no_triangle { (quad : Quad) → IsTriangle ready.now.pairs quad → ⊥ }
+    requires no_triangle { HasNoTriangle ready.now.pairs }
     requires sizes { FitPrograms ready.now.game ready.now.pairs (selected notions) }
     ensures whole { IfOk result AreWhole }
     ensures shown { IfOk result (AreShown ready.now.game ready.now.pairs) }

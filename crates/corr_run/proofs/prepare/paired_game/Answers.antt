@@ -17,4 +17,5 @@ returns-clause-recalled c = record {
   rules = rw (← c.game.view_is) c.game.invariant;
   recall = c.in_ok-recalled.ensures.recalled.perfect;
   pairs = c.in_ok-pairs.ensures;
+  rules_of_pairs = c.len.ensures.rules;
 }
