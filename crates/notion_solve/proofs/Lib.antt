@@ -4,5 +4,6 @@ mod Inside
 mod Joined
 mod Marking
 mod Points
+mod Rightness
 mod Weighing
 mod WideBasis

@@ -1,6 +1,7 @@
 pub mod Outcome
 pub mod Paid
 pub mod Programs
+pub mod Right
 pub mod Shown
 pub mod Spread
 pub mod WideBlock

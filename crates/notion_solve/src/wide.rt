@@ -13,8 +13,10 @@ use std::alloc::{AllocError as NoMemory, Global};
 fn basic_columns<T: Tableau>(alloc: Global, table: &T) -> Result<Vec<bool>, NoMemory>
     ensures count { IfOk result (λ basic. length basic.items ≡ (T.content table.now).cols) }
     ensures few { IfOk result (λ basic. length basic.items < 2 ^ 32) }
-    ensures all { IfOk result (λ basic. (row : ℕ) → IsProgramRow (T.content table.now) row → slice_get basic.items ((T.content table.now).basic row) ≡ Some true) }
-    ensures only { IfOk result (λ basic. (col : ℕ) → slice_get basic.items col ≡ Some true → (row : ℕ) × IsProgramRow (T.content table.now) row × ((T.content table.now).basic row ≡ col)) }
+    ensures all { IfOk result (λ basic. (row : ℕ) → IsProgramRow (T.content table.now) row
+        → slice_get basic.items ((T.content table.now).basic row) ≡ Some true) }
+    ensures only { IfOk result (λ basic. (col : ℕ) → slice_get basic.items col ≡ Some true
+        → (row : ℕ) × IsProgramRow (T.content table.now) row × ((T.content table.now).basic row ≡ col)) }
 {
     let mut basic: Vec<bool> = vec![in alloc; false; table.cols() as usize]?;
     for row in 0..table.rows() - 3 {
@@ -27,7 +29,8 @@ fn basic_columns<T: Tableau>(alloc: Global, table: &T) -> Result<Vec<bool>, NoMe
 fn marked(alloc: Global, marks: &[bool]) -> Result<ColumnList, NoMemory>
     requires { length marks.now < 2 ^ 32 }
     ensures ascend { IfOk result (λ columns. AscendFrom 0 columns) }
-    ensures all { IfOk result (λ columns. (col : ℕ) → slice_get marks.now col ≡ Some true → (k : ℕ) × (slice_get columns k ≡ Some col)) }
+    ensures all { IfOk result (λ columns. (col : ℕ) → slice_get marks.now col ≡ Some true
+        → (k : ℕ) × (slice_get columns k ≡ Some col)) }
     ensures only { IfOk result (λ columns. (k col : ℕ) → slice_get columns k ≡ Some col → slice_get marks.now col ≡ Some true) }
 {
     let mut columns = ColumnList::new(alloc);
