@@ -1,7 +1,7 @@
--- Each step's refusal of some bytes excludes those of all other steps, and a step has one. Only of the triangle's pairs more would
--- have to be known.
-use Rattle.std.proofs.Common.{◌≡◌, ◌⊎◌, ℕ, List, inl, inr, subst, sym, ◌∙◌, ap}
+-- Each step's refusal of some bytes excludes those of all other steps, and a step has one.
+use Rattle.std.proofs.Common.{◌≡◌, ℕ, List, subst, sym, ◌∙◌, ap}
 use Rattle.connected_pairs.specs.Connected.{PairsView}
+use Rattle.corr_game.specs.declared.notions.Notion.{Notion}
 use Rattle.corr_game.specs.Game.{GameView}
 use Rattle.efg_lines.specs.File.{FileView}
 use Rattle.efg_lines.specs.FileTokens.{IsFileOf, StopsAt}
@@ -9,12 +9,16 @@ use Rattle.efg_lines.proofs.SyntaxPlace.{no_file_there, one_place}
 use Rattle.efg_reader.specs.RawGame.{RawGameView}
 use Rattle.report_form.specs.declared.refusals.Refusal.{Refusal}
 use Rattle.report_form.specs.declared.refusals.Refusal.TheVariants.{Syntax}
-use Rattle.corr_run.specs.FirstRefusal.{IsOfFile, IsOfLines, IsOfRecall, IsOfScales, IsOfTriangle}
+use Rattle.corr_run.specs.FirstRefusal.{IsFirstRefusal, IsGameFor, IsOfFile, IsOfLines, IsOfRecall, IsOfScales, IsOfSizes, IsOfTriangle}
+use Rattle.corr_run.specs.FirstRefusal.IsFirstRefusal.{of_file, of_sizes}
 use Rattle.corr_run.specs.FirstRefusal.IsOfFile.{no_file, by_lines, by_scales, by_recall, by_triangle}
 use Rattle.corr_run.specs.GameOfFile.{IsGameOfBytes, SayGame, SayRecalled, SayScaled}
 use Rattle.corr_run.proofs.OneFileRefused.{no_lines_refusal, one_lines_refusal}
 use Rattle.corr_run.proofs.OneGameScaled.{no_scales_refusal, one_scaled, one_scales_refusal}
+use Rattle.corr_run.proofs.OnePairs.{one_recalled}
 use Rattle.corr_run.proofs.OneRecall.{no_recall_refusal, one_recall_refusal}
+use Rattle.corr_run.proofs.OneSize.{no_size, one_size}
+use Rattle.corr_run.proofs.OneTriangle.{no_triangle_refusal, one_triangle_refusal}
 
 module _ (bytes : List ℕ) where
   no_recall : (g h : GameView) (p : PairsView) (refusal : Refusal) → SayRecalled bytes g p → SayScaled bytes h → IsOfRecall h refusal → ⊥
@@ -63,18 +67,45 @@ module _ (bytes : List ℕ) where
       one_recall_refusal g a b of (subst (λ (k : GameView). IsOfRecall k b) (one_scaled bytes h g more say) too)
   recall_alone g a b say of (by_triangle h p more too) = absurd (no_recall h g p a more say of)
 
--- two refusals are equal, or both are of triangles
-pub refused_once : (bytes : List ℕ) (a b : Refusal) → IsOfFile bytes a → IsOfFile bytes b
-    → (a ≡ b) ⊎ ((g : GameView) × (p : PairsView) × (q : PairsView) × SayRecalled bytes g p × SayRecalled bytes g q
-    × IsOfTriangle g p a × IsOfTriangle g q b)
-refused_once bytes a b (no_file at stops is) y = inl (is ∙ syntax_alone bytes at b stops y)
-refused_once bytes a b (by_lines file read of) y = inl (lines_alone bytes file a b read of y)
-refused_once bytes a b (by_scales raw say of) y = inl (scales_alone bytes raw a b say of y)
-refused_once bytes a b (by_recall g say of) y = inl (recall_alone bytes g a b say of y)
+-- what is told of a triangle among some pairs of the game is told of any
+same_triangle : (bytes : List ℕ) (g : GameView) (p q : PairsView) (refusal : Refusal) → SayRecalled bytes g p → SayRecalled bytes g q
+    → IsOfTriangle g q refusal → IsOfTriangle g p refusal
+same_triangle bytes g p q refusal x y of =
+    subst (λ (r : PairsView). IsOfTriangle g r refusal) (sym (one_recalled bytes g g p q x y).1) of
+
+pub refused_once : (bytes : List ℕ) (a b : Refusal) → IsOfFile bytes a → IsOfFile bytes b → a ≡ b
+refused_once bytes a b (no_file at stops is) y = is ∙ syntax_alone bytes at b stops y
+refused_once bytes a b (by_lines file read of) y = lines_alone bytes file a b read of y
+refused_once bytes a b (by_scales raw say of) y = scales_alone bytes raw a b say of y
+refused_once bytes a b (by_recall g say of) y = recall_alone bytes g a b say of y
 refused_once bytes a b (by_triangle g p say of) y =
     let other = recalled_or_triangle bytes g p b say y in
-    inr (g, p, other.0, say, other.1, of, other.2)
+    one_triangle_refusal g p a b of (same_triangle bytes g p other.0 b say other.1 other.2)
 
-pub accepted_or_triangle : (bytes : List ℕ) (g : GameView) (p : PairsView) (refusal : Refusal) → IsGameOfBytes bytes g p
-    → IsOfFile bytes refusal → (q : PairsView) × SayRecalled bytes g q × IsOfTriangle g q refusal
-accepted_or_triangle bytes g p refusal game of = recalled_or_triangle bytes g p refusal game.say of
+pub accepted_alone : (bytes : List ℕ) (g : GameView) (p : PairsView) (refusal : Refusal) → IsGameOfBytes bytes g p
+    → IsOfFile bytes refusal → ⊥
+accepted_alone bytes g p refusal game of =
+    let other = recalled_or_triangle bytes g p refusal game.say of in
+    no_triangle_refusal g p game.no_triangle refusal (same_triangle bytes g p other.0 refusal game.say other.1 other.2)
+
+-- what is told of sizes of one game of the bytes is told of any
+same_sizes : (bytes : List ℕ) (notions : List Notion) (g h : GameView) (p q : PairsView) (refusal : Refusal) → SayRecalled bytes g p
+    → SayRecalled bytes h q → IsOfSizes h q notions refusal → IsOfSizes g p notions refusal
+same_sizes bytes notions g h p q refusal x y of =
+    let same = one_recalled bytes g h p q x y in
+    let here : IsOfSizes g q notions refusal = subst (λ (k : GameView). IsOfSizes k q notions refusal) (sym same.0) of in
+    subst (λ (r : PairsView). IsOfSizes g r notions refusal) (sym same.1) here
+
+pub first_once : (notions : List Notion) (bytes : List ℕ) (a b : Refusal) → IsFirstRefusal notions bytes a
+    → IsFirstRefusal notions bytes b → a ≡ b
+first_once notions bytes a b (of_file x) (of_file y) = refused_once bytes a b x y
+first_once notions bytes a b (of_file x) (of_sizes g p game sizes) = absurd (accepted_alone bytes g p a game x)
+first_once notions bytes a b (of_sizes g p game sizes) (of_file y) = absurd (accepted_alone bytes g p b game y)
+first_once notions bytes a b (of_sizes g p game sizes) (of_sizes h q more others) =
+    one_size g p notions a b sizes (same_sizes bytes notions g h p q b game.say more.say others)
+
+pub fitting_alone : (notions : List Notion) (bytes : List ℕ) (g : GameView) (p : PairsView) (refusal : Refusal)
+    → IsGameFor notions bytes g p → IsFirstRefusal notions bytes refusal → ⊥
+fitting_alone notions bytes g p refusal game (of_file of) = accepted_alone bytes g p refusal game.game of
+fitting_alone notions bytes g p refusal game (of_sizes h q more sizes) =
+    no_size g p notions refusal game.fit (same_sizes bytes notions g h p q refusal game.game.say more.say sizes)

@@ -39,30 +39,25 @@ pub fn one_refusal_a_step()
         → IsOfSizes g p notions a → IsOfSizes g p notions b → a ≡ b }
 {}
 
-/// Bytes say one game at most, and have one with whole amounts at most.
+/// Bytes say one game at most, have one with whole amounts at most, and this has one table of relevant pairs.
 pub fn bytes_say_one_game()
     ensures said { (bytes : List ℕ) (a b : RawGameView) → SayGame bytes a → SayGame bytes b → a ≡ b }
     ensures scaled { (bytes : List ℕ) (a b : GameView) → SayScaled bytes a → SayScaled bytes b → a ≡ b }
+    ensures recalled { (bytes : List ℕ) (g h : GameView) (p q : PairsView) → SayRecalled bytes g p → SayRecalled bytes h q
+        → (g ≡ h) × (p ≡ q) }
 {}
 
-/// Bytes have one refusal, whatever the notions: two are equal, or both are of triangles, among pairs of one game.
+/// Bytes have one first refusal at most: whatever the notions, and with the sizes of the notions' programs.
 pub fn bytes_are_refused_once()
-    ensures { (bytes : List ℕ) (a b : Refusal) → IsOfFile bytes a → IsOfFile bytes b
-        → (a ≡ b) ⊎ ((g : GameView) × (p : PairsView) × (q : PairsView) × SayRecalled bytes g p × SayRecalled bytes g q
-        × IsOfTriangle g p a × IsOfTriangle g q b) }
+    ensures file { (bytes : List ℕ) (a b : Refusal) → IsOfFile bytes a → IsOfFile bytes b → a ≡ b }
+    ensures first { (notions : List Notion) (bytes : List ℕ) (a b : Refusal) → IsFirstRefusal notions bytes a
+        → IsFirstRefusal notions bytes b → a ≡ b }
 {}
 
-/// Bytes whose game is accepted have no refusal, whatever the notions, unless there are other pairs of that game with a triangle.
+/// Bytes whose game is accepted have no first refusal: whatever the notions, and where the notions' programs fit.
 pub fn accepted_bytes_are_not_refused()
-    ensures { (bytes : List ℕ) (g : GameView) (p : PairsView) (refusal : Refusal) → IsGameOfBytes bytes g p
-        → IsOfFile bytes refusal → (q : PairsView) × SayRecalled bytes g q × IsOfTriangle g q refusal }
-{}
-
-/// The game that some bytes say has one table of relevant pairs, and so one refusal for a triangle and one for sizes.
-pub fn a_said_game_has_one_table_of_pairs()
-    ensures pairs { (bytes : List ℕ) (g h : GameView) (p q : PairsView) → g ≡ h → SayRecalled bytes g p → SayRecalled bytes h q → p ≡ q }
-    ensures triangle { (bytes : List ℕ) (g h : GameView) (p q : PairsView) (a b : Refusal) → g ≡ h → SayRecalled bytes g p
-        → SayRecalled bytes h q → IsOfTriangle g p a → IsOfTriangle h q b → a ≡ b }
-    ensures sizes { (notions : List Notion) (bytes : List ℕ) (g h : GameView) (p q : PairsView) (a b : Refusal) → g ≡ h → SayRecalled bytes g p
-        → SayRecalled bytes h q → IsOfSizes g p notions a → IsOfSizes h q notions b → a ≡ b }
+    ensures file { (bytes : List ℕ) (g : GameView) (p : PairsView) (refusal : Refusal) → IsGameOfBytes bytes g p
+        → IsOfFile bytes refusal → ⊥ }
+    ensures first { (notions : List Notion) (bytes : List ℕ) (g : GameView) (p : PairsView) (refusal : Refusal)
+        → IsGameFor notions bytes g p → IsFirstRefusal notions bytes refusal → ⊥ }
 {}

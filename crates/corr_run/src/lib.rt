@@ -17,8 +17,8 @@ mod top;
 
 pub use command_words::{Command, Notions, read_words};
 pub use laws::{
-    a_said_game_has_one_table_of_pairs, accepted_bytes_are_not_refused, bytes_are_refused_once,
-    bytes_say_one_game, no_refusal_of_a_game, one_refusal_a_step,
+    accepted_bytes_are_not_refused, bytes_are_refused_once, bytes_say_one_game,
+    no_refusal_of_a_game, one_refusal_a_step,
 };
 pub use prepare::{Ready, ReadyEnd};
 pub use status::Status;

@@ -13,7 +13,7 @@ use Rattle.plane_hull.specs.Inside.{IsInside, PlanePoint}
 use Rattle.plane_hull.specs.Mixture.{IsMixture}
 use Rattle.plane_hull.specs.StrictPolygon.{AreCornersInside}
 use Rattle.report_form.specs.declared.reports.Corner.{Corner}
-use Rattle.notion_solve.specs.Paid.{points_of}
+use Rattle.report_form.specs.Points.{points_of}
 use Rattle.notion_solve.specs.Right.{IsPaid, IsRightCorner, IsRightEmpty, IsRightPolygon, IsRightSide}
 
 -- two whole numbers above 0 are at least 1

@@ -9,7 +9,7 @@ use Rattle.corr_num.specs.Narrow.{Narrow}
 use Rattle.connected_pairs.specs.Connected.{PairsView}
 use Rattle.equilibrium.specs.Deviation.{following}
 use Rattle.equilibrium.specs.Distribution.{Entry, entries_of, total}
-use Rattle.equilibrium.specs.Equilibrium.{IsEquilibriumList, Slack}
+use Rattle.equilibrium.specs.Equilibrium.{IsEquilibriumList, no_slack}
 use Rattle.equilibrium.specs.ReachedPoint.{IsReached}
 use Rattle.lp_form.specs.Certificates.{ShowEmpty}
 use Rattle.lp_form.specs.Program.{LpView}
@@ -24,15 +24,11 @@ use Rattle.report_form.specs.Certified.{IsCertified, IsPointIn}
 use Rattle.report_form.specs.declared.reports.Block.{Block}
 use Rattle.report_form.specs.declared.reports.Block.TheVariants.{Found, Empty, TooWide}
 use Rattle.report_form.specs.declared.reports.Corner.{Corner}
-use Rattle.notion_solve.specs.Paid.{points_of}
-
--- leaving may gain nothing
-abbrev pub nothing : Slack
-nothing = record { num = 0; den = 1 }
+use Rattle.report_form.specs.Points.{points_of}
 
 -- some equilibrium list pays a point of the plane
 abbrev pub IsPaid : Notion → GameView → PlanePoint → Type 0
-IsPaid notion g p = IsReached notion g nothing (record { x = p.x; y = p.y; den = p.den })
+IsPaid notion g p = IsReached notion g no_slack (record { x = p.x; y = p.y; den = p.den })
 
 -- a point of the plane lies inside exactly where some equilibrium list pays it
 abbrev pub InsideIsPaid : Notion → GameView → List Corner → List SideRow → Type 0
@@ -41,7 +37,7 @@ InsideIsPaid notion g corners sides =
 
 -- a corner's pairs are an equilibrium list of its total that pays its point; what they pay is narrow, and they are few
 pub record IsRightCorner (notion : Notion) (g : GameView) (p : PairsView) (corner : Corner) : Type 0 where
-  pub equilibrium : IsEquilibriumList notion g nothing (entries_of corner.pairs)
+  pub equilibrium : IsEquilibriumList notion g no_slack (entries_of corner.pairs)
   pub total_is : total (entries_of corner.pairs) ≡ corner.total
   pub narrow : (side : Side) → Narrow (following side g (entries_of corner.pairs))
   pub point :
@@ -64,7 +60,7 @@ pub record IsRightPolygon (notion : Notion) (g : GameView) (p : PairsView) (lp :
 
 -- there is no equilibrium list, and narrow multipliers show that the program has no solution
 pub record IsRightEmpty (notion : Notion) (g : GameView) (lp : LpView) (multipliers : List ℤ) : Type 0 where
-  pub none : (list : List Entry) → IsEquilibriumList notion g nothing list → ⊥
+  pub none : (list : List Entry) → IsEquilibriumList notion g no_slack list → ⊥
   pub shown : ShowEmpty lp multipliers
   pub narrow : All Narrow multipliers
   pub columns : HasNarrowColumns lp multipliers

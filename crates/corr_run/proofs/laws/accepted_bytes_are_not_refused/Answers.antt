@@ -1,5 +1,8 @@
-use Rattle.corr_run.proofs.OneRefusal.{accepted_or_triangle}
+use Rattle.corr_run.proofs.OneRefusal.{accepted_alone, fitting_alone}
 use Rattle.corr_run.proofs.laws.accepted_bytes_are_not_refused.Goals as goal
 
-pub returns : goal.returns
-returns c = accepted_or_triangle
+pub returns-clause-file : goal.returns-clause-file
+returns-clause-file c = accepted_alone
+
+pub returns-clause-first : goal.returns-clause-first
+returns-clause-first c = fitting_alone
