@@ -1,4 +1,5 @@
 pub mod ByTree
 pub mod Least
 pub mod OneKid
+pub mod Partings
 pub mod Ruled

@@ -50,11 +50,11 @@ some_kid g n _ (further between action m up e) =
       | inr above ↦ (first.0, first.1, first.2, inr (further between action m above e))
     ]
 
-below_kid : (g : GameView) → IsGame g → (n action kid m : ℕ) → kid_of g n action ≡ Some kid → IsAtOrBelow g kid m → IsAbove g n m
+pub below_kid : (g : GameView) → IsGame g → (n action kid m : ℕ) → kid_of g n action ≡ Some kid → IsAtOrBelow g kid m → IsAbove g n m
 below_kid g rules n action kid m e (inl same) = subst (λ (x : ℕ). IsAbove g n x) same (parent action kid e)
 below_kid g rules n action kid m e (inr above) = above_joined g rules n kid m (parent action kid e) above
 
-same_or_apart : (a b : ℕ) → (a ≡ b) ⊎ (a ≡ b → ⊥)
+pub same_or_apart : (a b : ℕ) → (a ≡ b) ⊎ (a ≡ b → ⊥)
 same_or_apart a b = elim (cases_lt a b) [
   | inl less ↦ inr (λ e. omega (arith, e, less))
   | inr most ↦ elim (cases_lt b a) [

@@ -1,3 +1,4 @@
+pub mod Parting
 pub mod PublicChance
 pub mod TreeTriangle
 pub mod Triangle
