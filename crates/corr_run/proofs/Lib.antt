@@ -11,6 +11,7 @@ pub mod OneSize
 pub mod OneTriangle
 pub mod Ordering
 pub mod Reading
+pub mod RightTrue
 pub mod Scales
 pub mod Sizes
 pub mod Statuses

@@ -11,6 +11,7 @@ mod input;
 mod laws;
 mod one_node;
 mod prepare;
+mod right_laws;
 mod solving;
 mod status;
 mod top;
@@ -21,6 +22,7 @@ pub use laws::{
     no_refusal_of_a_game, one_refusal_a_step,
 };
 pub use prepare::{Ready, ReadyEnd};
+pub use right_laws::{right_blocks_are_true, right_reports_are_true};
 pub use status::Status;
 pub use top::run;
 
