@@ -80,6 +80,7 @@ fn found(alloc: Global, game: &Game, pairs: &Pairs, swept: Swept) -> Result<Bloc
     ensures shown { IfOk result (λ block. (lp : LpView) → IsProgram lp → IsSwept lp swept → IsShown game.now pairs.now lp block) }
 {
     let Swept { corners, sides } = swept;
+    let _ = sides.len();
     Ok(Block::Found {
         corners: corners_of(alloc, game, pairs, &corners)?,
         sides,

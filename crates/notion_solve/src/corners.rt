@@ -4,7 +4,7 @@ ghost use Rattle.connected_pairs.specs.Connected.{IsPairsOf};
 ghost use Rattle.corr_game.specs.Game.{IsGame, scale_of};
 ghost use Rattle.corr_num.specs.Narrow.{Narrow};
 ghost use Rattle.polygon_sweep.specs.Swept.{IsCornerOf};
-ghost use Rattle.report_form.specs.Ranges.{IsCorner, IsScale};
+ghost use Rattle.report_form.specs.Ranges.{IsCorner, IsPoint, IsScale};
 ghost use Rattle.lp_form.specs.Program.{LpView};
 ghost use Rattle.triangle_test.specs.Triangle.{HasNoTriangle};
 ghost use Rattle.notion_solve.specs.Programs.{IsOverRows};
@@ -61,6 +61,7 @@ fn scale_of(game: &Game, side: Side) -> i64
 fn point_of(game: &Game, corner: &SweptCorner) -> Point
     requires { (lp : LpView) × IsCornerOf lp corner.now }
     ensures point { IsPointIn game.now result corner.now.one corner.now.two corner.now.den }
+    ensures ranges { IsPoint result }
     ensures rules { IsGame game.now }
 {
     Point {
@@ -106,6 +107,7 @@ pub fn corners_of(
     requires few { length pairs.now.pairs ≤ 8192 }
     requires swept { (lp : LpView) × All (IsCornerOf lp) swept.now × IsOverRows pairs.now lp }
     ensures count { IfOk result (λ corners. length corners ≡ length swept.now) }
+    ensures few { IfOk result (λ corners. length corners < 2 ^ 64) }
     ensures ranges { IfOk result (λ corners. All IsCorner corners) }
     ensures spread { IfOk result (λ corners. All (IsSpread pairs.now) corners) }
     ensures points { IfOk result (ArePointsOf game.now swept.now) }

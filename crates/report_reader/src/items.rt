@@ -1,7 +1,7 @@
 // Single values: each is the next piece, or the reader stops before it.
 ghost use Rattle.std.specs.Prelude.{◌≡◌, ◌≤◌, ◌<◌, ◌^◌, length, IfOk};
 ghost use Rattle.corr_num.specs.Narrow.{Narrow};
-ghost use Rattle.report_form.specs.Ranges.{IsPositive, IsAction, IsScale, notion_number};
+ghost use Rattle.report_form.specs.Ranges.{AreSome, IsPositive, IsAction, IsPayoff, IsRow, IsScale, notion_number};
 
 use crate::pieces::Pieces;
 use crate::refusals::Stop;
@@ -57,7 +57,7 @@ fn read_counted(pieces: &mut Pieces, limit: u128) -> Result<u128, Stop>
 
 /// How many corners or sides there are.
 pub(crate) fn read_count(pieces: &mut Pieces) -> Result<usize, Stop>
-    ensures some { IfOk result (λ count. 1 ≤ count) }
+    ensures some { IfOk result AreSome }
     ensures same_input { pieces.new.bytes ≡ pieces.old.bytes }
 {
     Ok(read_counted(pieces, 1 << 64)? as usize)
@@ -103,6 +103,7 @@ pub(crate) fn expect_position(pieces: &mut Pieces, position: usize) -> Result<()
 }
 
 pub(crate) fn read_fraction(pieces: &mut Pieces) -> Result<Frac, Stop>
+    ensures payoff { IfOk result IsPayoff }
     ensures same_input { pieces.new.bytes ≡ pieces.old.bytes }
 {
     let Some(value) = fraction(pieces.next()) else {
@@ -151,6 +152,7 @@ pub(crate) fn read_column(pieces: &mut Pieces, least: u64) -> Result<u32, Stop>
 }
 
 pub(crate) fn read_row(pieces: &mut Pieces) -> Result<RowName, Stop>
+    ensures row { IfOk result IsRow }
     ensures same_input { pieces.new.bytes ≡ pieces.old.bytes }
 {
     if pieces.take(b"first") {

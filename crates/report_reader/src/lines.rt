@@ -2,7 +2,7 @@
 ghost use Rattle.std.specs.Prelude.{◌≡◌, ◌≤◌, length, All, IfOk, unsigned_abs};
 ghost use Rattle.std.specs.Int.{IsGcd};
 ghost use Rattle.corr_num.specs.Narrow.{Narrow};
-ghost use Rattle.report_form.specs.Ranges.{IsPair, IsCorner, IsSide};
+ghost use Rattle.report_form.specs.Ranges.{AreSome, IsPair, IsPoint, IsCorner, IsSide};
 
 use crate::items::{
     expect_position, read_corner_number, read_count, read_fraction, read_int, read_pair_count,
@@ -37,7 +37,7 @@ pub(crate) fn expect_between(pieces: &mut Pieces, word: &[u8]) -> Result<(), Sto
 
 /// The line that says how many corners or sides follow.
 pub(crate) fn read_count_line(pieces: &mut Pieces, word: &[u8]) -> Result<usize, Stop>
-    ensures some { IfOk result (λ count. 1 ≤ count) }
+    ensures some { IfOk result AreSome }
     ensures same_input { pieces.new.bytes ≡ pieces.old.bytes }
 {
     expect_first(pieces, word)?;
@@ -73,6 +73,7 @@ fn read_pairs(alloc: Global, pieces: &mut Pieces, count: usize) -> Result<PairLi
 }
 
 fn read_point(pieces: &mut Pieces) -> Result<Point, Stop>
+    ensures point { IfOk result IsPoint }
     ensures same_input { pieces.new.bytes ≡ pieces.old.bytes }
 {
     let one = read_fraction(pieces)?;

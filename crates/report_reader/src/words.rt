@@ -1,6 +1,7 @@
 // The values of single pieces.
 ghost use Rattle.std.specs.Prelude.{◌≡◌, ◌<◌, ◌≤◌, ◌^◌, length, IfSome, IsTrue, unsigned_abs};
 ghost use Rattle.std.specs.Int.{IsGcd};
+ghost use Rattle.report_form.specs.Ranges.{IsPayoff};
 
 use corr_game::Notion;
 use corr_num::{Frac, difference, gcd};
@@ -58,7 +59,9 @@ fn before_slash(word: &[u8]) -> usize
 }
 
 /// The value of a whole number or of a quotient in lowest terms.
-pub(crate) fn fraction(word: &[u8]) -> Option<Frac> {
+pub(crate) fn fraction(word: &[u8]) -> Option<Frac>
+    ensures { IfSome result IsPayoff }
+{
     let (num, rest) = word.split_at(before_slash(word));
     let num = whole(num, 1 << 126)?;
     match rest {
@@ -69,6 +72,7 @@ pub(crate) fn fraction(word: &[u8]) -> Option<Frac> {
 
 fn quotient(num: i128, den: &[u8]) -> Option<Frac>
     requires { unsigned_abs num < 2 ^ 126 }
+    ensures { IfSome result IsPayoff }
 {
     let den = magnitude(den, 1 << 126)? as i128;
     if den < 2 {

@@ -1,5 +1,5 @@
 -- Corners and sides of a sweep are in the ranges of a report.
-use Rattle.std.proofs.Common.{◌≤◌, length, arith}
+use Rattle.std.proofs.Common.{◌<◌, ◌≤◌, ◌^◌, length, arith}
 use Rattle.notion_solve.proofs.Points.{certified_sides}
 use Rattle.notion_solve.proofs.Weighing.{all_side_ranges}
 use Rattle.notion_solve.proofs.blocks.found.Goals as goal
@@ -8,7 +8,8 @@ pub returns-clause-ranges : goal.returns-clause-ranges
 returns-clause-ranges c =
     let swept = c.requires.swept.1 in
     let some : 1 ≤ length c.in_ok-corners_of.field-0 = omega (arith, c.in_ok-corners_of.ensures.count, swept.a_corner) in
-    (some, swept.a_side, c.in_ok-corners_of.ensures.ranges, rw c.in_ok-corners_of.ensures.count (all_side_ranges _ _ c.args.swept.sides swept.sides))
+    let sides : length c.args.swept.sides < 2 ^ 64 = omega (arith, c.len.type_inv, c.len.ensures.count) in
+    ((some, c.in_ok-corners_of.ensures.few), (swept.a_side, sides), c.in_ok-corners_of.ensures.ranges, rw c.in_ok-corners_of.ensures.count (all_side_ranges _ _ c.args.swept.sides swept.sides))
 
 pub returns-clause-shown : goal.returns-clause-shown
 returns-clause-shown c = λ lp program swept. (

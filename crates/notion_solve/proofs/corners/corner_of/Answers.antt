@@ -21,7 +21,7 @@ returns-clause-ranges c =
     let at_most : length c.in_ok-pairs.pairs ≤ 65535 = omega (arith, c.in_ok-pairs.ensures.few, c.requires.few) in
     let positive : pos 1 ≤ℤ c.args.corner.now.den = omega (arith, ints) in
     rw (narrow_returned c.args.corner.now.den corner.den)
-    ((positive, corner.den), c.in_ok-pairs.ensures.some, at_most, entry_pairs c.args.game.now c.args.pairs.now.seqs c.in_ok-pairs.pairs c.point_of-point.ensures.rules c.in_ok-pairs.ensures.entries)
+    ((positive, corner.den), c.in_ok-pairs.ensures.some, at_most, entry_pairs c.args.game.now c.args.pairs.now.seqs c.in_ok-pairs.pairs c.point_of-point.ensures.rules c.in_ok-pairs.ensures.entries, c.point_of-point.ensures.ranges)
 
 pub returns-clause-spread : goal.returns-clause-spread
 returns-clause-spread c =
