@@ -1,6 +1,7 @@
 pub mod Commands
 pub mod Endings
 pub mod Errors
+pub mod ExitNumbers
 pub mod FirstRefusals
 pub mod OneFileRefused
 pub mod OneGameScaled

@@ -1,5 +1,6 @@
-// Laws of refusals, as functions that do nothing: a game that is accepted is refused at no step, and a step has one refusal.
-ghost use Rattle.std.specs.Prelude.{◌≡◌, ◌⊎◌, ℕ, List};
+// Laws of refusals and of statuses, as functions that do nothing: a game that is accepted is refused at no step, bytes have one
+// refusal, and the exit number tells what ended otherwise than well.
+ghost use Rattle.std.specs.Prelude.{◌≡◌, ◌↔◌, ◌⊎◌, ℕ, List};
 ghost use Rattle.connected_pairs.specs.Connected.{PairsView};
 ghost use Rattle.corr_game.specs.Game.{GameView};
 ghost use Rattle.corr_game.specs.declared.notions.Notion.{Notion};
@@ -7,7 +8,10 @@ ghost use Rattle.efg_lines.specs.File.{FileView};
 ghost use Rattle.efg_lines.specs.FileTokens.{IsFileOf, StopsAt};
 ghost use Rattle.efg_reader.specs.RawGame.{RawGameView};
 ghost use Rattle.report_form.specs.declared.refusals.Refusal.{Refusal};
-ghost use Rattle.corr_run.specs.FirstRefusal.{IsGameFor, IsOfFile, IsOfLines, IsOfRecall, IsOfScales, IsOfSizes, IsOfTriangle};
+ghost use Rattle.corr_run.specs.declared.status.Status.{Status};
+ghost use Rattle.corr_run.specs.declared.status.Status.TheVariants.{Solved, Written, Yes};
+ghost use Rattle.corr_run.specs.ExitNumber.{exit_number};
+ghost use Rattle.corr_run.specs.FirstRefusal.{IsFirstRefusal, IsGameFor, IsOfFile, IsOfLines, IsOfRecall, IsOfScales, IsOfSizes, IsOfTriangle};
 ghost use Rattle.corr_run.specs.GameOfFile.{IsGameOfBytes, SayGame, SayRecalled, SayScaled};
 
 /// A game that is accepted is refused neither for its bytes' syntax nor for their lines, for no path, scale or amount, for no set
@@ -60,4 +64,10 @@ pub fn accepted_bytes_are_not_refused()
         → IsOfFile bytes refusal → ⊥ }
     ensures first { (notions : List Notion) (bytes : List ℕ) (g : GameView) (p : PairsView) (refusal : Refusal)
         → IsGameFor notions bytes g p → IsFirstRefusal notions bytes refusal → ⊥ }
+{}
+
+/// Different statuses have different exit numbers, but for those of commands that were carried out whole, which have 0.
+pub fn exit_numbers_tell_statuses()
+    ensures one { (a b : Status) → exit_number a ≡ exit_number b → (a ≡ b) ⊎ (exit_number a ≡ 0) }
+    ensures zero { (status : Status) → (exit_number status ≡ 0) ↔ ((status ≡ Solved) ⊎ ((status ≡ Written) ⊎ (status ≡ Yes))) }
 {}

@@ -19,7 +19,7 @@ mod top;
 pub use command_words::{Command, Notions, read_words};
 pub use laws::{
     accepted_bytes_are_not_refused, bytes_are_refused_once, bytes_say_one_game,
-    no_refusal_of_a_game, one_refusal_a_step,
+    exit_numbers_tell_statuses, no_refusal_of_a_game, one_refusal_a_step,
 };
 pub use prepare::{Ready, ReadyEnd};
 pub use right_laws::{right_blocks_are_true, right_reports_are_true};
