@@ -7,6 +7,8 @@ pub mod Growing
 pub mod Meeting
 pub mod NoneAbove
 pub mod NotionProgram
+pub mod OneIncentives
+pub mod OneProgram
 pub mod Ordering
 pub mod Smallness
 pub mod Units

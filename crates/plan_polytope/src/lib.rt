@@ -6,10 +6,12 @@
 //! the program meets those rows as equations, and what it pays is bounded.
 #![tactic(auto)]
 
+mod laws;
 mod payoffs;
 mod polytopes;
 mod rows;
 
+pub use laws::notions_have_one_program;
 pub use polytopes::polytope;
 
 #[cfg(test)]
