@@ -2,8 +2,9 @@
 ghost use Rattle.std.specs.Prelude.{◌≡◌, ℕ};
 ghost use Rattle.connected_pairs.specs.Connected.{IsPairsOf};
 
-use crate::games::{CHICKEN, COIN, DIAGONAL, DILEMMA, ENTRY, FORGETFUL, HEADS, LETTERS, ONE};
-use crate::games::{ONE_CARD, SUMS};
+use crate::games::{
+    CHICKEN, COIN, DIAGONAL, DILEMMA, ENTRY, FORGETFUL, HEADS, LETTERS, ONE, ONE_CARD, SUMS,
+};
 use crate::generated::{Draws, chain, public};
 use crate::opened::{Opened, game_of, open};
 use corr_game::{SetId, Side};
@@ -40,7 +41,10 @@ fn expect_alike(rt: &impl Abort, alloc: Global, text: &str) -> Result<(), Fail> 
         triangle(&opened.game, &opened.pairs),
         least_triangle(alloc, &opened.game)?
     );
-    assert_eq!(rt; public_chance(&opened.game), has_public_chance(&opened.game));
+    assert_eq!(rt;
+        public_chance(&opened.game),
+        has_public_chance(&opened.game)
+    );
     Ok(())
 }
 
