@@ -3,6 +3,7 @@ mod Faultless
 mod FirstBroken
 mod ColumnSums
 mod OneFault
+mod OneVerdict
 mod RestOfRow
 mod Accepted
 mod Sizes

@@ -12,6 +12,7 @@ ghost use Rattle.report_form.specs.declared.reports.Corner.{Corner};
 ghost use Rattle.cert_check.specs.declared.verdicts.Cause.{Cause};
 ghost use Rattle.report_form.specs.View.{ReportView};
 ghost use Rattle.cert_check.specs.declared.verdicts.Item.{Item};
+ghost use Rattle.cert_check.specs.declared.verdicts.Verdict.{Verdict};
 ghost use Rattle.cert_check.specs.declared.verdicts.Verdict.TheVariants.{Partial, Yes};
 ghost use Rattle.cert_check.specs.CornerRules.{CornerRule, corner_rules};
 ghost use Rattle.cert_check.specs.Rules.{AllHold, IsFirstBroken};
@@ -56,4 +57,10 @@ pub fn true_reports_are_accepted()
     ensures one { (g : GameView) (p : PairsView) (report : ReportView) → IsVerdictOn g p report Yes → IsVerdictOn g p report Partial → ⊥ }
     ensures back { (g : GameView) (p : PairsView) (report : ReportView)
         → IsVerdictOn g p report Yes ⊎ IsVerdictOn g p report Partial → IsTrueReport g p report }
+{}
+
+/// A report has one verdict at most.
+pub fn each_report_has_one_verdict()
+    ensures { (g : GameView) (p : PairsView) (report : ReportView) (one two : Verdict) → IsVerdictOn g p report one
+        → IsVerdictOn g p report two → one ≡ two }
 {}

@@ -21,7 +21,8 @@ mod verdicts;
 
 pub use blocks::check;
 pub use laws::{
-    corners_break_one_rule_first, true_blocks_have_no_fault, true_multipliers_show_empty,
+    blocks_have_one_fault, corners_break_one_rule_first, each_report_has_one_verdict,
+    true_blocks_have_no_fault, true_multipliers_show_empty, true_reports_are_accepted,
     true_sides_are_certified,
 };
 pub use verdicts::{Cause, Item, Verdict};
