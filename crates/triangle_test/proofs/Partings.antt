@@ -250,10 +250,10 @@ root_over g rules n room = elim (cases_lt 0 n) [
   | inr root ↦ inl (omega arith)
 ]
 
-at_same_kid : (g : GameView) (a b x : ℕ) → a ≡ b → IsAtOrBelow g b x → IsAtOrBelow g a x
+pub at_same_kid : (g : GameView) (a b x : ℕ) → a ≡ b → IsAtOrBelow g b x → IsAtOrBelow g a x
 at_same_kid g a b x same h = subst (λ (y : ℕ). IsAtOrBelow g y x) (sym same) h
 
-at_same_node : (g : GameView) (a x y : ℕ) → x ≡ y → IsAtOrBelow g a x → IsAtOrBelow g a y
+pub at_same_node : (g : GameView) (a x y : ℕ) → x ≡ y → IsAtOrBelow g a x → IsAtOrBelow g a y
 at_same_node g a x y same h = subst (IsAtOrBelow g a) same h
 
 -- no two nodes in a row of a set part

@@ -7,8 +7,8 @@ ghost use Rattle.tree_recall.specs.Tree.{IsAbove, kid_of, set_of};
 ghost use Rattle.connected_pairs.specs.Connected.{IsPairs, IsPairsOf, PairsView};
 ghost use Rattle.triangle_test.specs.declared.triangles.Quad.{Quad};
 ghost use Rattle.triangle_test.specs.PublicChance.{IsAtOrBelow, IsChance, IsPublicChance};
-ghost use Rattle.triangle_test.specs.TreeTriangle.{IsLeastTreeTriangle, IsTreeTriangle};
-ghost use Rattle.triangle_test.specs.Triangle.{IsLeastTriangle, IsTriangle};
+ghost use Rattle.triangle_test.specs.TreeTriangle.{HasNoTreeTriangle, IsLeastTreeTriangle, IsTreeTriangle};
+ghost use Rattle.triangle_test.specs.Triangle.{HasNoTriangle, IsLeastTriangle, IsTriangle};
 
 /// With perfect recall the triangles are those of the tree.
 pub fn triangles_are_those_of_the_tree()
@@ -40,4 +40,12 @@ pub fn public_chance_keeps_sets_below_one_kid()
         ((side : Side) (chance action kid m n set : ℕ) → IsChance g chance → kid_of g chance action ≡ Some kid
         → IsAtOrBelow g kid m → IsAbove g chance n → set_of g side m ≡ Some set → set_of g side n ≡ Some set
         → IsAtOrBelow g kid n) }
+{}
+
+/// With perfect recall a game with public chance has no triangle.
+pub fn public_chance_leaves_no_triangle()
+    ensures tree { (g : GameView) → IsGame g → ((side : Side) → HasRecall g side) → IsPublicChance g
+        → HasNoTreeTriangle g }
+    ensures pairs { (g : GameView) (p : PairsView) → IsGame g → ((side : Side) → HasRecall g side) → IsPairs p
+        → IsPairsOf g p → IsPublicChance g → HasNoTriangle p }
 {}

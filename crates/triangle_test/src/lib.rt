@@ -10,9 +10,9 @@ mod triangles;
 
 pub use chances::public_chance;
 pub use laws::{
-    public_chance_keeps_sets_below_one_kid, sets_of_one_node_keep_chance_public,
-    the_least_triangle_is_that_of_the_tree, triangles_are_those_of_the_tree,
-    without_chance_it_is_public,
+    public_chance_keeps_sets_below_one_kid, public_chance_leaves_no_triangle,
+    sets_of_one_node_keep_chance_public, the_least_triangle_is_that_of_the_tree,
+    triangles_are_those_of_the_tree, without_chance_it_is_public,
 };
 pub use triangles::{Quad, triangle};
 
