@@ -21,7 +21,8 @@ rest_among : (x : ℕ) (xs ys : List ℕ) → Ascending (x ∷ xs) → AreAmong 
 rest_among x xs ys up among k one at = by (among (suc k) one at)
   where
     by : (j : ℕ) × (slice_get (x ∷ ys) j ≡ Some one) → (j : ℕ) × (slice_get ys j ≡ Some one)
-    by (zero, at_head) = let same : x ≡ one = cc in let above = up 0 (suc k) x one (omega arith) refl at in absurd (omega (arith, same, above))
+    by (zero, at_head) = let same : x ≡ one = cc in let above = up 0 (suc k) x one (omega arith) refl at in absurd
+        (omega (arith, same, above))
     by (suc j, there) = (j, there)
 
 tail_up : (x : ℕ) (xs : List ℕ) → Ascending (x ∷ xs) → Ascending xs
@@ -38,11 +39,13 @@ ascending_alike (x ∷ xs) (y ∷ ys) up rise among back =
     let into = subst (λ (z : ℕ). AreAmong (x ∷ xs) (z ∷ ys)) (sym heads) among in
     let from = subst (λ (z : ℕ). AreAmong (z ∷ ys) (x ∷ xs)) (sym heads) back in
     let rise_too = subst (λ (z : ℕ). Ascending (z ∷ ys)) (sym heads) rise in
-    let tails = ascending_alike xs ys (tail_up x xs up) (tail_up y ys rise) (rest_among x xs ys up into) (rest_among x ys xs rise_too from) in
+    let tails = ascending_alike xs ys (tail_up x xs up) (tail_up y ys rise) (rest_among x xs ys up into)
+    (rest_among x ys xs rise_too from) in
     rw (heads, tails) refl
 
 pub listed_alike : (t : Content) (one other : List ℕ) → ListsBasis one t → ListsBasis other t → one ≡ other
-listed_alike t one other first second = ascending_alike one other first.ascending second.ascending (into one other first second) (into other one second first)
+listed_alike t one other first second = ascending_alike one other first.ascending second.ascending (into one other first second)
+    (into other one second first)
   where
     into : (xs ys : List ℕ) → ListsBasis xs t → ListsBasis ys t → AreAmong xs ys
     into xs ys from to k col at =

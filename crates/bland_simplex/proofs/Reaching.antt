@@ -1,5 +1,6 @@
 -- The tableaus to which the method may lead: they are of the program's own start, and a step that ends wide has a tableau behind it.
-use Rattle.std.proofs.Common.{◌≡◌, ◌≢◌, ◌⊎◌, ⊎_elim, inl, inr, ℕ, ◌+◌, ◌<◌, ◌≤◌, ◌∙◌, ap, List, Some, ℤ, pos, ◌*ℤ◌, ◌<ℤ◌, length, refl, sym, subst, false, arith}
+use Rattle.std.proofs.Common.{◌≡◌, ◌≢◌, ◌⊎◌, ⊎_elim, inl, inr, ℕ, ◌+◌, ◌<◌, ◌≤◌, ◌∙◌, ap, List, Some, ℤ, pos, ◌*ℤ◌, ◌<ℤ◌, length, refl}
+use Rattle.std.proofs.Common.{sym, subst, false, arith}
 use Rattle.std.proofs.lemmas.Bool.{cases_eq, cases_lt}
 use Rattle.std.proofs.lemmas.Int.{ints}
 use Rattle.corr_num.specs.Narrow.{Wide}
@@ -31,7 +32,8 @@ record MayPivot (lp : LpView) (t : Content) (row col : ℕ) : Type 0 where
   in_columns : col < lp.cols + length lp.rows
   not_zero : t.entry row col ≢ pos 0
 
-may_pivot : (lp : LpView) (dir : Dir) (t : Content) (row col : ℕ) → IsFirstStep lp t row col ⊎ IsTurning lp dir t row col → MayPivot lp t row col
+may_pivot : (lp : LpView) (dir : Dir) (t : Content) (row col : ℕ) → IsFirstStep lp t row col ⊎ IsTurning lp dir t row col
+    → MayPivot lp t row col
 may_pivot lp dir t row col (inl (inl step)) = record {
   opened = step.way.open;
   reached = step.way.reached;
@@ -111,7 +113,8 @@ may_keeps lp heading next (steps _ dir t _ row col may heads step pivoted) =
     kept_by lp t row col (may_pivot lp dir t row col step) next pivoted
 may_keeps lp heading t (turns before _ dir _ may heads ready optimal on) = may_keeps lp before t may
 
-named_alike : (t u : Content) (row : ℕ) (name : RowName) → u.rows ≡ t.rows → u.basic row ≡ t.basic row → IsNamed u row name → IsNamed t row name
+named_alike : (t u : Content) (row : ℕ) (name : RowName) → u.rows ≡ t.rows → u.basic row ≡ t.basic row → IsNamed u row name
+    → IsNamed t row name
 named_alike t u row (Basic col) rows basic named = (rw rows at named.0, sym basic ∙ named.1)
 named_alike t u row First rows basic named = rw rows at named
 named_alike t u row Second rows basic named = rw rows at named
@@ -121,20 +124,24 @@ one_quotient : (den q r : ℤ) → pos 0 <ℤ den → q *ℤ den ≡ r *ℤ den 
 one_quotient den q r over same = cancel_positive den over (omega (arith, ints, same))
 
 -- Where a step from such a tableau ends wide, what it leaves has the basis of a wide one.
-pub step_leaves_wide : (lp : LpView) (heading : Heading) (dir : Dir) (last new : Content) (row col : ℕ) (place : Place) → MayReach lp heading last → HeadsIn heading dir → IsFirstStep lp last row col ⊎ IsTurning lp dir last row col → EndsWide last new row col place → LeavesWide lp new place
+pub step_leaves_wide : (lp : LpView) (heading : Heading) (dir : Dir) (last new : Content) (row col : ℕ) (place : Place)
+    → MayReach lp heading last → HeadsIn heading dir → IsFirstStep lp last row col ⊎ IsTurning lp dir last row col
+    → EndsWide last new row col place → LeavesWide lp new place
 step_leaves_wide lp heading dir last new row col place may heads step ended =
     let pivots = may_pivot lp dir last row col step in
     let next = pivoted_content lp last row col pivots in
     let pivoted = is_pivoted lp last row col pivots in
     let there = pivoted.others ended.at place.col ended.in_rows ended.in_columns ended.other in
-    let same : next.entry ended.at place.col ≡ ended.entry = one_quotient last.denom (next.entry ended.at place.col) ended.entry (pivots.opened.rules.positive pivots.opened.fresh) (there ∙ sym ended.entry_is) in
+    let same : next.entry ended.at place.col ≡ ended.entry = one_quotient last.denom (next.entry ended.at place.col) ended.entry
+    (pivots.opened.rules.positive pivots.opened.fresh) (there ∙ sym ended.entry_is) in
     record {
       heading = heading;
       tableau = next;
       may = steps heading dir last next row col may heads step pivoted;
       wide = record {
         row = ended.at;
-        named = named_alike next new ended.at place.row ended.basis.rows (ended.basis.others ended.at ended.other ∙ sym (pivoted.basis.others ended.at ended.other)) ended.named;
+        named = named_alike next new ended.at place.row ended.basis.rows
+            (ended.basis.others ended.at ended.other ∙ sym (pivoted.basis.others ended.at ended.other)) ended.named;
         in_columns = ended.in_columns;
         wide = subst (λ e. Wide e) (sym same) ended.wide;
       };
@@ -149,29 +156,45 @@ step_leaves_wide lp heading dir last new row col place may heads step ended =
         (cases_eq k row)
 
 -- Steps from such a tableau lead to such.
-pub steps_may : (lp : LpView) (heading : Heading) (dir : Dir) (Step : Content → ℕ → ℕ → Type 0) (first last : Content) → ((t : Content) (row col : ℕ) → Step t row col → IsFirstStep lp t row col ⊎ IsTurning lp dir t row col) → HeadsIn heading dir → MayReach lp heading first → StepsLead Step first last → MayReach lp heading last
+pub steps_may : (lp : LpView) (heading : Heading) (dir : Dir) (Step : Content → ℕ → ℕ → Type 0) (first last : Content)
+    → ((t : Content) (row col : ℕ) → Step t row col → IsFirstStep lp t row col ⊎ IsTurning lp dir t row col) → HeadsIn heading dir
+    → MayReach lp heading first → StepsLead Step first last → MayReach lp heading last
 steps_may lp heading dir Step first _ are heads may stays = may
 steps_may lp heading dir Step first next are heads may (goes at _ row col led step pivoted) =
     steps heading dir at next row col (steps_may lp heading dir Step first at are heads may led) heads (are at row col step) pivoted
 
-pub steps_leave_wide : (lp : LpView) (heading : Heading) (dir : Dir) (Step : Content → ℕ → ℕ → Type 0) (first new : Content) (place : Place) → ((t : Content) (row col : ℕ) → Step t row col → IsFirstStep lp t row col ⊎ IsTurning lp dir t row col) → HeadsIn heading dir → MayReach lp heading first → StepsLeadWide Step first new place → LeavesWide lp new place
+pub steps_leave_wide : (lp : LpView) (heading : Heading) (dir : Dir) (Step : Content → ℕ → ℕ → Type 0) (first new : Content)
+    (place : Place) → ((t : Content) (row col : ℕ) → Step t row col → IsFirstStep lp t row col ⊎ IsTurning lp dir t row col)
+    → HeadsIn heading dir → MayReach lp heading first → StepsLeadWide Step first new place → LeavesWide lp new place
 steps_leave_wide lp heading dir Step first new place are heads may ended =
-    step_leaves_wide lp heading dir ended.last new ended.row ended.col place (steps_may lp heading dir Step first ended.last are heads may ended.led) heads (are ended.last ended.row ended.col ended.step) ended.wide
+    step_leaves_wide lp heading dir ended.last new ended.row ended.col place
+    (steps_may lp heading dir Step first ended.last are heads may ended.led) heads (are ended.last ended.row ended.col ended.step)
+    ended.wide
 
-pub steps_left : (lp : LpView) (heading : Heading) (dir : Dir) (Step : Content → ℕ → ℕ → Type 0) (first new : Content) (end : PivotEnd) → ((t : Content) (row col : ℕ) → Step t row col → IsFirstStep lp t row col ⊎ IsTurning lp dir t row col) → HeadsIn heading dir → MayReach lp heading first → StepsEnd Step first new end → IsLeftWide lp new end
-steps_left lp heading dir Step first new (WideAt place) are heads may ended = steps_leave_wide lp heading dir Step first new place are heads may ended
+pub steps_left : (lp : LpView) (heading : Heading) (dir : Dir) (Step : Content → ℕ → ℕ → Type 0) (first new : Content) (end : PivotEnd)
+    → ((t : Content) (row col : ℕ) → Step t row col → IsFirstStep lp t row col ⊎ IsTurning lp dir t row col) → HeadsIn heading dir
+    → MayReach lp heading first → StepsEnd Step first new end → IsLeftWide lp new end
+steps_left lp heading dir Step first new (WideAt place) are heads may ended =
+    steps_leave_wide lp heading dir Step first new place are heads may ended
 steps_left lp heading dir Step first new NoMemory are heads may ended = tt
 
 -- A list of the basis that is left is one of the wide tableau's.
-pub listed_wide : (lp : LpView) (left : Content) (place : Place) (columns : List ℕ) → LeavesWide lp left place → ListsBasis columns left → IsWideBasis lp columns place
+pub listed_wide : (lp : LpView) (left : Content) (place : Place) (columns : List ℕ) → LeavesWide lp left place → ListsBasis columns left
+    → IsWideBasis lp columns place
 listed_wide lp left place columns leaves lists = record {
   heading = leaves.heading;
   tableau = leaves.tableau;
   may = leaves.may;
   lists = record {
     ascending = lists.ascending;
-    basic = λ k col at. let found = lists.basic k col at in (found.0, rw leaves.rows at found.1, sym (leaves.basis found.0 found.1) ∙ found.2);
-    all = λ row h. let inside = rw (sym leaves.rows) at h in let found = lists.all row inside in (found.0, found.1 ∙ ap (λ c. Some c) (leaves.basis row inside));
+    basic = λ k col at. let found = lists.basic k col at in (
+      found.0,
+      rw leaves.rows at found.1,
+      sym (leaves.basis found.0 found.1) ∙
+          found.2,
+    );
+    all = λ row h. let inside = rw (sym leaves.rows) at h in let found = lists.all row inside in
+        (found.0, found.1 ∙ ap (λ c. Some c) (leaves.basis row inside));
   };
   wide = leaves.wide;
 }

@@ -9,7 +9,7 @@ ghost use Rattle.int_tableau.specs.Reached.{IsReachedFrom};
 ghost use Rattle.int_tableau.specs.Start.{start_entry};
 ghost use Rattle.bland_simplex.specs.Reachable.{HeadsIn, Heading, IsWideBasis, ListsBasis, MayReach, NeverWide};
 ghost use Rattle.bland_simplex.specs.Ready.{IsLowered, IsReady, IsUnderWay, artificial_sum};
-ghost use Rattle.bland_simplex.specs.Steps.{IsFirstStep, IsTurning};
+ghost use Rattle.bland_simplex.specs.Steps.{IsFirstStep, IsTurning, StepsLead};
 
 /// In a ready tableau Phase's right side is 0.
 pub fn ready_tableaus_are_lowered()
@@ -24,6 +24,14 @@ pub fn phase_is_the_artificial_sum()
 /// The method leads to tableaus of the program's own start alone.
 pub fn reachable_tableaus_keep_the_start()
     ensures { (lp : LpView) (heading : Heading) (t : Content) → MayReach lp heading t → IsReachedFrom (start_entry lp) t }
+{}
+
+/// Steps of the first phase, and turning steps for the direction, lead on to such tableaus.
+pub fn steps_lead_on()
+    ensures first { (lp : LpView) (heading : Heading) (dir : Dir) (t last : Content) → HeadsIn heading dir → MayReach lp heading t
+        → StepsLead (IsFirstStep lp) t last → MayReach lp heading last }
+    ensures turning { (lp : LpView) (heading : Heading) (dir : Dir) (t last : Content) → HeadsIn heading dir → MayReach lp heading t
+        → StepsLead (IsTurning lp dir) t last → MayReach lp heading last }
 {}
 
 /// Where the method can take a step, and that leads to a tableau that is wide somewhere, its basis is a wide one.

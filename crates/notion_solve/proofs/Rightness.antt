@@ -23,15 +23,19 @@ over_one h = omega (arith, ints)
 element : {X : Type 0} (P : X → Type 0) (xs : List X) (k : ℕ) (x : X) → All P xs → slice_get xs k ≡ Some x → P x
 element P xs k x all at = subst (λ y. P y) (get_or_from_slice_get xs k x x at) (all k x (slice_get_within xs k x at))
 
-module _ (notion : Notion) (g : GameView) (p : PairsView) (lp : LpView) (corners : List Corner) (sides : List SideRow) (right : IsRightPolygon notion g p lp corners sides) where
+module _ (notion : Notion) (g : GameView) (p : PairsView) (lp : LpView) (corners : List Corner) (sides : List SideRow)
+    (right : IsRightPolygon notion g p lp corners sides) where
   side_at : (k : ℕ) (side : SideRow) → slice_get sides k ≡ Some side → IsRightSide g lp corners side
   side_at k side at = element (IsRightSide g lp corners) sides k side right.each_side at
 
   point_there : (k : ℕ) (corner : Corner) → slice_get corners k ≡ Some corner → slice_get (points_of corners) k ≡ Some corner.point
-  point_there k corner at = slice_get-map (λ (c : Corner). c.point) corners k ∙ ap (λ c. option_map (λ (corner : Corner). corner.point) c) at
+  point_there k corner at =
+      slice_get-map (λ (c : Corner). c.point) corners k ∙ ap (λ c. option_map (λ (corner : Corner). corner.point) c) at
 
   stands : (k : ℕ) (side : SideRow) → slice_get sides k ≡ Some side → side.corner < length (points_of corners)
-  stands k side at = let certified = (side_at k side at).certified in slice_get_within (points_of corners) side.corner certified.corner.point (point_there side.corner certified.corner certified.at)
+  stands k side at =
+      let certified = (side_at k side at).certified in
+      slice_get_within (points_of corners) side.corner certified.corner.point (point_there side.corner certified.corner certified.at)
 
   -- the side of direction (0, 1) stands at some corner
   pub a_corner : (corner : Corner) × IsRightCorner notion g p corner
@@ -60,9 +64,11 @@ module _ (notion : Notion) (g : GameView) (p : PairsView) (lp : LpView) (corners
       let exactly = right.exactly point over in
       (λ paid. mixed.0 (exactly.1 paid), λ mixture. exactly.0 (mixed.1 mixture))
 
-pub polygons_are_one : (notion : Notion) (g : GameView) (p : PairsView) (lp other : LpView) (corners more : List Corner) (sides round : List SideRow)
+pub polygons_are_one : (notion : Notion) (g : GameView) (p : PairsView) (lp other : LpView) (corners more : List Corner)
+    (sides round : List SideRow)
     → IsRightPolygon notion g p lp corners sides → IsRightPolygon notion g p other more round → (point : PlanePoint) → pos 0 <ℤ point.den
-    → IsInside (scale_of One g) (scale_of Two g) (points_of corners) sides point ↔ IsInside (scale_of One g) (scale_of Two g) (points_of more) round point
+    → IsInside (scale_of One g) (scale_of Two g) (points_of corners) sides point
+    ↔ IsInside (scale_of One g) (scale_of Two g) (points_of more) round point
 polygons_are_one notion g p lp other corners more sides round first second point over =
     let one = first.exactly point over in
     let two = second.exactly point over in

@@ -20,7 +20,8 @@ use Rattle.notion_solve.proofs.Marking.{ascend_apart}
 use Rattle.notion_solve.specs.Shown.{IsShown, IsShownFor}
 use Rattle.notion_solve.specs.WideBlock.{NamesBasis}
 
-pub names : (t : Content) (marks : List Bool) (columns : List ℕ) → ((row : ℕ) → IsProgramRow t row → slice_get marks (t.basic row) ≡ Some true)
+pub names : (t : Content) (marks : List Bool) (columns : List ℕ)
+    → ((row : ℕ) → IsProgramRow t row → slice_get marks (t.basic row) ≡ Some true)
     → ((col : ℕ) → slice_get marks col ≡ Some true → (row : ℕ) × IsProgramRow t row × (t.basic row ≡ col))
     → AscendFrom 0 columns → ((col : ℕ) → slice_get marks col ≡ Some true → (k : ℕ) × (slice_get columns k ≡ Some col))
     → ((k col : ℕ) → slice_get columns k ≡ Some col → slice_get marks col ≡ Some true) → ListsBasis columns t
@@ -30,16 +31,21 @@ names t marks columns all_marked only_marked up all_listed only_listed = record 
   all = λ row inside. all_listed (t.basic row) (all_marked row inside);
 }
 
-shown_by : (g : GameView) (p : PairsView) (lp : LpView) (left : Content) (place : Place) (block : Block) → LeavesWide lp left place → NamesBasis left place block → IsShown g p lp block
+shown_by : (g : GameView) (p : PairsView) (lp : LpView) (left : Content) (place : Place) (block : Block) → LeavesWide lp left place
+    → NamesBasis left place block → IsShown g p lp block
 shown_by g p lp left place (Found corners sides) leaves named = absurd named
 shown_by g p lp left place (Empty multipliers) leaves named = absurd named
-shown_by g p lp left place (TooWide basis at) leaves named = listed_wide lp left at basis (subst (λ other. LeavesWide lp left other) (sym named.1) leaves) named.0
+shown_by g p lp left place (TooWide basis at) leaves named = listed_wide lp left at basis
+    (subst (λ other. LeavesWide lp left other) (sym named.1) leaves) named.0
 
-shown_ok : (g : GameView) (p : PairsView) (notion : Notion) (lp : LpView) (left : Content) (place : Place) (made : Result Block AllocError) → IsProgramOf g p notion lp → LeavesWide lp left place → IfOk made (NamesBasis left place) → IfOk made (IsShownFor g p notion)
+shown_ok : (g : GameView) (p : PairsView) (notion : Notion) (lp : LpView) (left : Content) (place : Place)
+    (made : Result Block AllocError) → IsProgramOf g p notion lp → LeavesWide lp left place
+    → IfOk made (NamesBasis left place) → IfOk made (IsShownFor g p notion)
 shown_ok g p notion lp left place (Ok block) program leaves named = (lp, program, shown_by g p lp left place block leaves named)
 shown_ok g p notion lp left place (Err short) program leaves named = tt
 
-pub wide_shown : (g : GameView) (p : PairsView) (notion : Notion) (lp : LpView) (left : Content) (end : PivotEnd) (place : Place) (made : Result Block AllocError) → IsProgramOf g p notion lp
+pub wide_shown : (g : GameView) (p : PairsView) (notion : Notion) (lp : LpView) (left : Content) (end : PivotEnd) (place : Place)
+    (made : Result Block AllocError) → IsProgramOf g p notion lp
     → end ≡ Wide place → IsLeftWide lp left end → IfOk made (NamesBasis left place) → IfOk made (IsShownFor g p notion)
 wide_shown g p notion lp left end place made program is leaves named =
     shown_ok g p notion lp left place made program (subst (λ other. IsLeftWide lp left other) is leaves) named

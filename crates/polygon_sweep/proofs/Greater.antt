@@ -34,7 +34,8 @@ level_or_below b low = by (at_most_or_above (pos 0) b)
     by (inl high) = inl (omega (arith, ints))
     by (inr below) = inr below
 
-pub turns_greater : (dir next : Dir) → TurnsTo dir next → IsGcd (unsigned_abs next.a) (unsigned_abs next.b) 1 → (IsFullTurn next → ⊥) → angle_cmp dir next ≡ Less
+pub turns_greater : (dir next : Dir) → TurnsTo dir next → IsGcd (unsigned_abs next.a) (unsigned_abs next.b) 1 → (IsFullTurn next → ⊥)
+    → angle_cmp dir next ≡ Less
 turns_greater dir next turned coprime short = less dir next (by (half_cases dir) (half_cases next))
   where
     by : (half_of dir ≡ 0) ⊎ (half_of dir ≡ 1) → (half_of next ≡ 0) ⊎ (half_of next ≡ 1) → IsBefore dir next
@@ -43,9 +44,11 @@ turns_greater dir next turned coprime short = less dir next (by (half_cases dir)
     by (inr first) (inr second) = same_half (first ∙ sym second) turned.left
     by (inr first) (inl second) =
         let from = lower dir first in
-        absurd (not_up dir.a dir.b next.a next.b turned from (upper next second) (λ over level. short (one_of_gcd next.a over (rw level at coprime), level)) (level_or_below dir.b from.0))
+        absurd (not_up dir.a dir.b next.a next.b turned from (upper next second)
+        (λ over level. short (one_of_gcd next.a over (rw level at coprime), level)) (level_or_below dir.b from.0))
 
 -- At an optimal tableau the heading may turn on there.
-pub turned_on : (lp : LpView) (dir next : Dir) (t : Content) → IsReady lp t → IsOptimal t (length lp.rows) lp.cols dir → TurnsTo dir next → IsCoprime next → (IsFullTurn next → ⊥) → MayReach lp (turning dir) t → MayReach lp (turning next) t
+pub turned_on : (lp : LpView) (dir next : Dir) (t : Content) → IsReady lp t → IsOptimal t (length lp.rows) lp.cols dir
+    → TurnsTo dir next → IsCoprime next → (IsFullTurn next → ⊥) → MayReach lp (turning dir) t → MayReach lp (turning next) t
 turned_on lp dir next t ready optimal turned coprime short may =
     turns (turning dir) (turning next) dir t may refl ready optimal (turns_greater dir next turned coprime short)

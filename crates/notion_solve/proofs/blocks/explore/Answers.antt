@@ -22,5 +22,6 @@ returns-in_err-sweep-in-Start-clause-wide g c =
     let old = g.T.Tableau.content c.args.table.now in
     let middle = g.T.Tableau.content c.feasible.new.table in
     error_named _ _ (IsLeftWide lp (g.T.Tableau.content c.sweep.new.table)) c.from_residual-in_err-sweep-in-Start.ensures.1
-    (c.in_err-sweep-in-Start.ensures.wide (λ dir is. steps_may lp (turning dir) dir (IsFirstStep lp) old middle (λ t row col step. inl step) refl
+    (c.in_err-sweep-in-Start.ensures.wide (λ dir is. steps_may lp (turning dir) dir (IsFirstStep lp) old middle
+    (λ t row col step. inl step) refl
     (starts dir old is c.requires.start c.requires.rules) c.in_ok-feasible.ensures.steps))

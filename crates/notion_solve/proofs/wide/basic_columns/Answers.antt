@@ -8,5 +8,11 @@ loop-row-preserved g c =
     let basic = (g.T.Tableau.content c.args.table.now).basic in
     let marks = c.loop-row.basic.items in
     let marked = c.basic.ensures.value in
-    let inside : basic c.loop-row.row < length marks = omega (arith, c.basic.ensures.value, c.basic.ensures.column, c.loop-row.invariant.0) in
-    rw marked (length-set marks (basic c.loop-row.row) true ∙ c.loop-row.invariant.0, all_marked basic c.loop-row.row marks inside c.loop-row.invariant.1, only_marked basic c.loop-row.row marks c.loop-row.invariant.2)
+    let inside : basic c.loop-row.row < length marks = omega
+    (arith, c.basic.ensures.value, c.basic.ensures.column, c.loop-row.invariant.0) in
+    rw marked (
+      length-set marks (basic c.loop-row.row) true ∙ c.loop-row.invariant.0,
+      all_marked basic c.loop-row.row marks inside
+          c.loop-row.invariant.1,
+      only_marked basic c.loop-row.row marks c.loop-row.invariant.2,
+    )

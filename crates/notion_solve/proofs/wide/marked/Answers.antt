@@ -12,11 +12,15 @@ loop-col-preserved c =
       | then-mark+in_ok-push w ↦ (
         rw (w.columns-is, w.in_ok-push.ensures.ok) (ascends_with 0 c.loop-col.col c.loop-col.columns small c.loop-col.invariant.0),
         rw (w.columns-is, w.in_ok-push.ensures.ok) (all_with c.args.marks.now c.loop-col.col c.loop-col.columns c.loop-col.invariant.1),
-        rw (w.columns-is, w.in_ok-push.ensures.ok) (only_with c.args.marks.now c.loop-col.col c.loop-col.columns (slice_get-get_or c.args.marks.now c.loop-col.col false c.loop-col-test.true ∙ ap (λ b. Some b) w.if-mark.true) c.loop-col.invariant.2),
+        rw (w.columns-is, w.in_ok-push.ensures.ok) (only_with c.args.marks.now c.loop-col.col c.loop-col.columns
+            (slice_get-get_or c.args.marks.now c.loop-col.col false c.loop-col-test.true ∙ ap (λ b. Some b) w.if-mark.true)
+            c.loop-col.invariant.2),
       )
       | else-mark w ↦ (
         rw w.columns-is (ascends_on 0 c.loop-col.col c.loop-col.columns c.loop-col.invariant.0),
-        rw w.columns-is (all_without c.args.marks.now c.loop-col.col c.loop-col.columns (slice_get-get_or c.args.marks.now c.loop-col.col false c.loop-col-test.true ∙ ap (λ b. Some b) w.if-mark.false) c.loop-col.invariant.1),
+        rw w.columns-is (all_without c.args.marks.now c.loop-col.col c.loop-col.columns
+            (slice_get-get_or c.args.marks.now c.loop-col.col false c.loop-col-test.true ∙ ap (λ b. Some b) w.if-mark.false)
+            c.loop-col.invariant.1),
         rw w.columns-is c.loop-col.invariant.2,
       )
     ]

@@ -11,7 +11,8 @@ use Rattle.polygon_sweep.proofs.sweeps.turn.Goals as goal
 pub returns-in_err-side-clause-end : goal.returns-in_err-side-clause-end
 returns-in_err-side-clause-end g c =
     let table = g.T.Tableau.content c.args.table.now in
-    error_named _ NoMemory (StepsEnd (IsTurning c.args.lp.now c.args.dir) table table) c.from_residual.ensures.1 (short_ends table table stays)
+    error_named _ NoMemory (StepsEnd (IsTurning c.args.lp.now c.args.dir) table table) c.from_residual.ensures.1
+    (short_ends table table stays)
 
 pub arrive-requires-clause-present : goal.arrive-requires-clause-present
 arrive-requires-clause-present g c = slice_get_within _ _ _ c.requires.present.at
