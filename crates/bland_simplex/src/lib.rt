@@ -17,7 +17,8 @@ mod turning;
 pub use first_phase::{Found, feasible};
 pub use laws::{
     a_basis_is_listed_in_one_way, never_wide_has_no_wide_basis, phase_is_the_artificial_sum,
-    reachable_tableaus_keep_the_start, ready_tableaus_are_lowered, steps_may_end_wide,
+    reachable_tableaus_keep_the_start, ready_tableaus_are_lowered, steps_lead_on,
+    steps_may_end_wide,
 };
 pub use lp_form::NumList;
 pub use plane_hull::Dir;
