@@ -45,11 +45,13 @@ module _ (g : GameView) (lp : LpView) (notion : Notion) where
   pub one_block_fault : (block : Block) (at other : Item) (one two : Cause) → IsBlockFault g lp notion block at one
       → IsBlockFault g lp notion block other two → AreOne at other one two
   one_block_fault _ _ _ _ _ (at_corner corners sides k corner one there before broken) (at_corner _ _ j next two here earlier fails) =
-      let same = one_first (CornerRule g notion) corner_rules corners k j corner next one two (there, before, broken) (here, earlier, fails) in
+      let same = one_first (CornerRule g notion) corner_rules corners k j corner next one two (there, before, broken)
+      (here, earlier, fails) in
       (ap (λ (n : ℕ). item.Corner n) same.0, same.1)
   one_block_fault _ _ _ _ _ (at_corner corners sides k corner one there before broken) (at_belt _ _ side good fault) =
       absurd (none_broken (CornerRule g notion corner) corner_rules one (all_at (IsTrueCorner g notion) corners k corner good there) broken)
-  one_block_fault _ _ _ _ _ (at_corner corners sides k corner one there before broken) (at_side _ _ j side rule good belt here earlier fails) =
+  one_block_fault _ _ _ _ _ (at_corner corners sides k corner one there before broken)
+      (at_side _ _ j side rule good belt here earlier fails) =
       absurd (none_broken (CornerRule g notion corner) corner_rules one (all_at (IsTrueCorner g notion) corners k corner good there) broken)
   one_block_fault _ _ _ _ _ (at_belt corners sides side good fault) (at_corner _ _ j next two here earlier fails) =
       absurd (none_broken (CornerRule g notion next) corner_rules two (all_at (IsTrueCorner g notion) corners j next good here) fails)
@@ -57,13 +59,15 @@ module _ (g : GameView) (lp : LpView) (notion : Notion) where
       (ap (λ (n : ℕ). item.Belt n) (one_fault (points_of corners) sides side later fault broken), refl)
   one_block_fault _ _ _ _ _ (at_belt corners sides side good fault) (at_side _ _ j next rule fine belt here earlier fails) =
       absurd (fault.no_belt belt)
-  one_block_fault _ _ _ _ _ (at_side corners sides k side rule good belt there before broken) (at_corner _ _ j next two here earlier fails) =
+  one_block_fault _ _ _ _ _ (at_side corners sides k side rule good belt there before broken)
+      (at_corner _ _ j next two here earlier fails) =
       absurd (none_broken (CornerRule g notion next) corner_rules two (all_at (IsTrueCorner g notion) corners j next good here) fails)
   one_block_fault _ _ _ _ _ (at_side corners sides k side rule good belt there before broken) (at_belt _ _ later fine fault) =
       absurd (fault.no_belt belt)
   one_block_fault _ _ _ _ _ (at_side corners sides k side rule good belt there before broken)
       (at_side _ _ j next other fine round here earlier fails) =
-      let same = one_first (SideRule g lp corners) (side_rules lp) sides k j side next rule other (there, before, broken) (here, earlier, fails) in
+      let same = one_first (SideRule g lp corners) (side_rules lp) sides k j side next rule other (there, before, broken)
+      (here, earlier, fails) in
       (ap (λ (n : ℕ). item.Side n) same.0, ap cause_of same.1)
   one_block_fault _ _ _ _ _ (at_multipliers multipliers rule broken) (at_multipliers _ other fails) =
       (refl, ap cause_of (one_broken (EmptyRule lp multipliers) (empty_rules lp) rule other broken fails))

@@ -24,8 +24,8 @@ use Rattle.cert_check.specs.declared.verdicts.Verdict.{Verdict}
 use Rattle.cert_check.specs.declared.verdicts.Verdict.TheVariants.{No}
 use Rattle.cert_check.specs.Rules.{AllHold, IsFirstBroken, by_column}
 use Rattle.cert_check.specs.SideRules.{CertificateRule, EmptyRule, SideRule, above, empty_rules, per_row, point, side_rules, sign, width}
-use Rattle.cert_check.specs.Truth.{AreBefore, IsBlockFault, IsTrueOf, IsTrueReport, IsVerdictOn, at_belt, at_corner, at_multipliers, at_side}
-use Rattle.cert_check.specs.Truth.{broken, other_scales, partly, whole}
+use Rattle.cert_check.specs.Truth.{AreBefore, IsBlockFault, IsTrueOf, IsTrueReport, IsVerdictOn}
+use Rattle.cert_check.specs.Truth.{at_belt, at_corner, at_multipliers, at_side, broken, other_scales, partly, whole}
 use Rattle.cert_check.proofs.Accepted.{not_both}
 use Rattle.cert_check.proofs.Elements.{all_at}
 use Rattle.cert_check.proofs.Faultless.{no_fault}
@@ -62,10 +62,12 @@ alike g p notion a b x y = record {
 module _ (a b : LpView) (same : AreAlike a b) where
   times_alike : (multipliers : List ℤ) (col : ℕ) → times_column a multipliers col ≡ times_column b multipliers col
   times_alike multipliers col =
-      sum_to-same (length a.rows) _ _ (λ row low. ap (λ (z : ℤ). slice_index_or multipliers row (pos 0) *ℤ z) (same.coefficients row col low))
+      sum_to-same (length a.rows) _ _
+      (λ row low. ap (λ (z : ℤ). slice_index_or multipliers row (pos 0) *ℤ z) (same.coefficients row col low))
       ∙ ap (λ (n : ℕ). sum_to n (λ row. slice_index_or multipliers row (pos 0) *ℤ coefficient b row col)) same.rows
 
-  left_alike : (side : Side) (den : ℤ) (multipliers : List ℤ) (col : ℕ) → left_over a side den multipliers col ≡ left_over b side den multipliers col
+  left_alike : (side : Side) (den : ℤ) (multipliers : List ℤ) (col : ℕ)
+      → left_over a side den multipliers col ≡ left_over b side den multipliers col
   left_alike side den multipliers col =
       ap₂ (λ (u v : ℤ). u -ℤ den *ℤ v) (times_alike multipliers col) (same.payoffs side col)
 
@@ -103,17 +105,19 @@ fault_alike g notion a b same back _ _ _ (at_side corners sides k side rule good
     let Hold : SideRow → List CertificateRule → Type 0 = λ row rules. AllHold (SideRule g b corners row) rules in
     at_side corners sides k side rule good belt there
     (λ j row low here. subst (Hold row) (rules_alike a b same)
-    (all_alike (SideRule g a corners row) (SideRule g b corners row) (side_alike a b same g corners row) (side_rules a) (before j row low here)))
+    (all_alike (SideRule g a corners row) (SideRule g b corners row) (side_alike a b same g corners row) (side_rules a)
+    (before j row low here)))
     (subst Breaks (rules_alike a b same) (broken_alike (SideRule g a corners side) (SideRule g b corners side)
     (side_alike a b same g corners side) (side_alike b a back g corners side) (side_rules a) rule fails))
 fault_alike g notion a b same back _ _ _ (at_multipliers multipliers rule fails) =
     let Breaks : List CertificateRule → Type 0 = λ rules. IsFirstBroken (EmptyRule b multipliers) rules rule in
-    at_multipliers multipliers rule (subst Breaks (empty_rules_alike a b same) (broken_alike (EmptyRule a multipliers) (EmptyRule b multipliers)
+    at_multipliers multipliers rule (subst Breaks (empty_rules_alike a b same)
+    (broken_alike (EmptyRule a multipliers) (EmptyRule b multipliers)
     (empty_alike a b same multipliers) (empty_alike b a back multipliers) (empty_rules a) rule fails))
 
 module _ (g : GameView) (p : PairsView) (report : ReportView) where
-  moved : (notion : Notion) (a b : LpView) → IsProgramOf g p notion a → IsProgramOf g p notion b → (block : Block) (at : Item) (cause : Cause)
-      → IsBlockFault g a notion block at cause → IsBlockFault g b notion block at cause
+  moved : (notion : Notion) (a b : LpView) → IsProgramOf g p notion a → IsProgramOf g p notion b
+      → (block : Block) (at : Item) (cause : Cause) → IsBlockFault g a notion block at cause → IsBlockFault g b notion block at cause
   moved notion a b x y = fault_alike g notion a b (alike g p notion a b x y) (alike g p notion b a y x)
 
   -- a block that is true of its notion's program has no fault of it
@@ -124,7 +128,8 @@ module _ (g : GameView) (p : PairsView) (report : ReportView) where
 
   none_in : IsTrueReport g p report → (k : ℕ) (named : NamedBlock) (lp : LpView) (at : Item) (cause : Cause)
       → slice_get report.blocks k ≡ Some named → IsProgramOf g p named.notion lp → IsBlockFault g lp named.notion named.block at cause → ⊥
-  none_in holds k named lp at cause there of fault = none_of named lp at cause (all_at (IsTrueOf g p) report.blocks k named holds.blocks there) of fault
+  none_in holds k named lp at cause there of fault =
+      none_of named lp at cause (all_at (IsTrueOf g p) report.blocks k named holds.blocks there) of fault
 
   same_no : (named : NamedBlock) (at other : Item) (one two : Cause) → (at ≡ other) × (one ≡ two)
       → No named.notion at one ≡ No named.notion other two

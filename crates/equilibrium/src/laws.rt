@@ -61,7 +61,8 @@ pub fn reduced_plans_name_one_action_where_they_play()
 /// What two plans pay is the sum of the amounts of the leaves whose two own sequences they play.
 pub fn plans_pay_what_the_leaves_that_they_play_pay()
     ensures pays { (side : Side) (g : GameView) → IsGame g → (first second : ℕ → List (SetId × ℕ))
-        → AreOwn One g first → AreOwn Two g second → (one two : List (Option ℕ)) → walk side g one two 0 ≡ leaves_pay side g first second one two }
+        → AreOwn One g first → AreOwn Two g second → (one two : List (Option ℕ))
+        → walk side g one two 0 ≡ leaves_pay side g first second one two }
     ensures names { (plan : List (Option ℕ)) (seq : List (SetId × ℕ)) → (names_all plan seq ≡ true) ↔ PlaysMoves plan seq }
 {}
 

@@ -90,7 +90,8 @@ module _ (g : GameView) (p : PairsView) (trigger : Trigger) (sets : List (Option
   coefficient_one : IsOne (IsCoefficient g p trigger sets follow columns r k)
   coefficient_one a b x y =
       both_one
-      (Both (AreTerms (IsSetTerm g p trigger sets follow columns r k) (length (sets_of trigger.side g))) (IsSlackTerm columns (follow + 1) r k))
+      (Both (AreTerms (IsSetTerm g p trigger sets follow columns r k) (length (sets_of trigger.side g)))
+      (IsSlackTerm columns (follow + 1) r k))
       (AreTerms (IsLeafTerm g p trigger sets follow r k) (length g.nodes))
       (both_one _ _ (terms_one _ set_one (length (sets_of trigger.side g))) (term_one _ _))
       (terms_one _ leaf_one (length g.nodes)) a b x y
@@ -139,14 +140,16 @@ block_one g p trigger first values floor cols a b x y count counted r k low =
     let same = places_one g p trigger.side trigger.set (length (sets_of trigger.side g)) x.sets y.sets x.value_count x.row_count
     y.value_count y.row_count x.placed y.placed in
     let rows = count_one row_each g p trigger.side trigger.set x.row_count count x.placed.all_rows counted in
-    let P : List (Option SetPlace) → Type 0 = λ sets. IsCoefficient g p trigger sets x.row_count columns r k (coefficient a (first + r) k) in
+    let P : List (Option SetPlace) → Type 0 =
+    λ sets. IsCoefficient g p trigger sets x.row_count columns r k (coefficient a (first + r) k) in
     let Q : ℕ → Type 0 = λ follow. IsCoefficient g p trigger y.sets follow columns r k (coefficient a (first + r) k) in
     let here = subst Q same.1 (subst P same.0 (x.terms r k (omega arith))) in
     coefficient_one g p trigger y.sets y.row_count columns r k _ _ here (y.terms r k (omega (arith, same.1)))
 
 same_trigger : (s t : Trigger) → s.side ≡ t.side → s.set ≡ t.set → s.action ≡ t.action → s.seq ≡ t.seq → s ≡ t
 same_trigger s t e f h i =
-    let make : Side → Option SetId → Option ℕ → ℕ → Trigger = λ side set action seq. record { side = side; set = set; action = action; seq = seq } in
+    let make : Side → Option SetId → Option ℕ → ℕ → Trigger =
+    λ side set action seq. record { side = side; set = set; action = action; seq = seq } in
     ap₂ (λ (side : Side) (set : Option SetId). make side set s.action s.seq) e f
     ∙ ap₂ (λ (action : Option ℕ) (seq : ℕ). make t.side t.set action seq) h i
 

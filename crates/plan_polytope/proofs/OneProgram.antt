@@ -118,7 +118,8 @@ total_row_one p a b k x y None e =
     x.elsewhere k away ∙ sym (y.elsewhere k away)
 total_row_one p a b k x y (Some j) e = ⊎_elim
     (λ (same : j ≡ k). (let here : index_of p 0 0 ≡ Some k = e ∙ ap (λ (n : ℕ). Some n) same in x.empty k here ∙ sym (y.empty k here)))
-    (λ (other : j ≢ k). (let away : index_of p 0 0 ≢ Some k = λ f. other (one_number (sym e ∙ f)) in x.elsewhere k away ∙ sym (y.elsewhere k away)))
+    (λ (other : j ≢ k). (let away : index_of p 0 0 ≢ Some k = λ f. other (one_number (sym e ∙ f)) in
+    x.elsewhere k away ∙ sym (y.elsewhere k away)))
     (cases_eq j k)
   where
     one_number : Some j ≡ Some k → j ≡ k
@@ -201,7 +202,8 @@ module _ (g : GameView) (p : PairsView) (notion : Notion) (a b : LpView) (x : Is
       ap (λ (l : LpView). coefficient l row k) of.parts
       ∙ ap (λ (entries : List Entry). value_at entries k) (row_in_front of.base of.more row low)
 
-  in_more : (lp : LpView) (of : IsProgramOf g p notion lp) (row k : ℕ) → coefficient lp (length of.base.rows + row) k ≡ coefficient of.more row k
+  in_more : (lp : LpView) (of : IsProgramOf g p notion lp) (row k : ℕ)
+      → coefficient lp (length of.base.rows + row) k ≡ coefficient of.more row k
   in_more lp of row k =
       ap (λ (l : LpView). coefficient l (length of.base.rows + row) k) of.parts
       ∙ ap (λ (entries : List Entry). value_at entries k) (row_behind of.base of.more row)
@@ -210,7 +212,8 @@ module _ (g : GameView) (p : PairsView) (notion : Notion) (a b : LpView) (x : Is
   more_one : (row k : ℕ) → row < x.incentives → coefficient x.more row k ≡ coefficient y.more row k
   more_one row k low =
       let rows_one = total_one row_each 1 notion g p One x.size.rows_one y.size.rows_one x.size.of_one y.size.of_one in
-      let values_one = total_one value_each 0 notion g p One x.size.values_one y.size.values_one x.size.values_of_one y.size.values_of_one in
+      let values_one = total_one value_each 0 notion g p One x.size.values_one y.size.values_one x.size.values_of_one
+      y.size.values_of_one in
       let cols : y.more.cols ≡ x.more.cols = omega (arith, x.all_columns, y.all_columns, sizes.0, sizes.1) in
       let floor : length p.pairs + y.values ≡ length p.pairs + x.values = omega (arith, sizes.1) in
       elim (cases_lt row x.size.rows_one) [

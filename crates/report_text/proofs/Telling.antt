@@ -5,9 +5,11 @@ use Rattle.corr_game.specs.declared.notions.Notion.TheVariants.{Efce, Efcce, Nfc
 use Rattle.corr_game.specs.declared.sides.Side.{Side}
 use Rattle.corr_game.specs.declared.sides.Side.TheVariants.{One, Two}
 use Rattle.report_form.specs.declared.refusals.NodeRule.{NodeRule}
-use Rattle.report_form.specs.declared.refusals.NodeRule.TheVariants.{ExtraNode, TooManyNodes, TooDeep, NumberTooWide, PlayerUnknown, NoActions}
+use Rattle.report_form.specs.declared.refusals.NodeRule.TheVariants.{ExtraNode, TooManyNodes, TooDeep, NumberTooWide}
+use Rattle.report_form.specs.declared.refusals.NodeRule.TheVariants.{PlayerUnknown, NoActions}
 use Rattle.report_form.specs.declared.refusals.NodeRule.TheVariants.{TooManyActions, ChanceNegative, ChanceTooFine, ChanceSum, SetUnknown}
-use Rattle.report_form.specs.declared.refusals.NodeRule.TheVariants.{SetDiffers, PayoffCount, OutcomeUnknown, OutcomeDiffers, MissingNode, PathTooFine, AmountTooLarge}
+use Rattle.report_form.specs.declared.refusals.NodeRule.TheVariants.{SetDiffers, PayoffCount, OutcomeUnknown, OutcomeDiffers}
+use Rattle.report_form.specs.declared.refusals.NodeRule.TheVariants.{MissingNode, PathTooFine, AmountTooLarge}
 use Rattle.report_text.specs.NameText.{notion_name, player_name, rule_name}
 
 abbrev bytes_sum : List ℕ → ℕ
@@ -15,7 +17,8 @@ bytes_sum [] = 0
 bytes_sum (byte ∷ rest) = byte + bytes_sum rest
 
 -- two things with one name, where a thing can be told by its name
-told_apart : {A : Type 0} (name : A → List ℕ) (told : ℕ → A) → ((x : A) → told (bytes_sum (name x)) ≡ x) → (a b : A) → name a ≡ name b → a ≡ b
+told_apart : {A : Type 0} (name : A → List ℕ) (told : ℕ → A) → ((x : A) → told (bytes_sum (name x)) ≡ x)
+    → (a b : A) → name a ≡ name b → a ≡ b
 told_apart name told back a b e = sym (back a) ∙ ap (λ (text : List ℕ). told (bytes_sum text)) e ∙ back b
 
 abbrev told_notion : ℕ → Notion
