@@ -1,6 +1,6 @@
 -- What an accepted report shows, block by block: sides that multipliers certify, and programs without a solution (the duality of linear
 -- programs, Dantzig 1963).
-use Rattle.std.specs.Prelude.{◌≡◌, ◌⊎◌, ℕ, ℤ, pos, ◌+ℤ◌, ◌*ℤ◌, ◌≤ℤ◌, List, Some, slice_get, slice_index_or, All}
+use Rattle.std.specs.Prelude.{◌≡◌, ◌⊎◌, Bool, false, true, ℕ, ℤ, pos, ◌+ℤ◌, ◌*ℤ◌, ◌≤ℤ◌, List, Some, slice_get, slice_index_or, All}
 use Rattle.corr_game.specs.declared.notions.Notion.{Notion}
 use Rattle.corr_game.specs.Game.{GameView}
 use Rattle.corr_num.specs.Narrow.{Narrow}
@@ -43,6 +43,16 @@ IsCertifiedBlock g p notion (TooWide basis place) = Unit {0}
 -- the same of each block
 abbrev pub AreCertifiedBlocks : GameView → PairsView → List NamedBlock → Type 0
 AreCertifiedBlocks g p blocks = (k : ℕ) (named : NamedBlock) → slice_get blocks k ≡ Some named → IsCertifiedBlock g p named.notion named.block
+
+-- whether a block says that a tableau is too wide
+abbrev pub is_too_wide : Block → Bool
+is_too_wide (Found corners sides) = false
+is_too_wide (Empty multipliers) = false
+is_too_wide (TooWide basis place) = true
+
+-- no block is
+abbrev pub NoneTooWide : List NamedBlock → Type 0
+NoneTooWide blocks = All (λ (named : NamedBlock). is_too_wide named.block ≡ false) blocks
 
 -- no rule was found broken
 abbrev pub IsAccepted : Verdict → Type 0

@@ -14,6 +14,7 @@ use Rattle.report_form.specs.declared.reports.Block.TheVariants.{Found, Empty, T
 use Rattle.report_form.specs.declared.reports.Corner.{Corner}
 use Rattle.report_form.specs.declared.reports.NamedBlock.{NamedBlock}
 use Rattle.report_form.specs.Points.{points_of}
+use Rattle.report_form.specs.Ranges.{IsReport}
 use Rattle.report_form.specs.View.{ReportView}
 use Rattle.cert_check.specs.declared.verdicts.Cause.{Cause}
 use Rattle.cert_check.specs.declared.verdicts.Cause.TheVariants.{Belt}
@@ -68,8 +69,9 @@ IsTrueOf g p named = (lp : LpView) × IsProgramOf g p named.notion lp × IsTrueB
 abbrev pub IsTooWide : NamedBlock → Type 0
 IsTooWide named = (basis : List ℕ) × (place : Place) × (named.block ≡ TooWideAt basis place)
 
--- a report is true: its scales are the game's, and all its blocks are true
+-- a report is true: its numbers are in their ranges, its scales are the game's, and all its blocks are true
 pub record IsTrueReport (g : GameView) (p : PairsView) (report : ReportView) : Type 0 where
+  pub ranges : IsReport report
   pub scales : HasScales g report
   pub blocks : All (IsTrueOf g p) report.blocks
 

@@ -1,6 +1,6 @@
-ghost use Rattle.std.specs.Prelude.{◌≡◌, ◌↔◌, IsTrue, ◌<◌, ◌≤◌, All, IfOk, Ok, length};
-ghost use Rattle.cert_check.specs.declared.verdicts.Verdict.TheVariants.{NoScale};
-ghost use Rattle.cert_check.specs.Certified.{AreCertifiedBlocks, IsAccepted, IsCertifiedBlock};
+ghost use Rattle.std.specs.Prelude.{◌≡◌, ◌↔◌, IsTrue, ◌<◌, ◌≤◌, All, IfOk, Ok, false, length, true};
+ghost use Rattle.cert_check.specs.declared.verdicts.Verdict.TheVariants.{NoScale, Partial, Yes};
+ghost use Rattle.cert_check.specs.Certified.{AreCertifiedBlocks, IsAccepted, IsCertifiedBlock, NoneTooWide};
 ghost use Rattle.cert_check.specs.Scales.{HasScales};
 ghost use Rattle.lp_form.specs.Certificates.{ShowEmpty};
 ghost use Rattle.lp_form.specs.Program.{LpView};
@@ -37,6 +37,8 @@ pub fn check(
     ensures no_scale { IfOk result (λ verdict. verdict ≡ NoScale → HasScales game.now report.now → ⊥) }
     ensures scales { IfOk result (λ verdict. (HasScales game.now report.now → ⊥) → verdict ≡ NoScale) }
     ensures certified { IfOk result (λ verdict. IsAccepted verdict → AreCertifiedBlocks game.now pairs.now report.now.blocks) }
+    ensures whole { IfOk result (λ verdict. verdict ≡ Yes → NoneTooWide report.now.blocks) }
+    ensures partly { IfOk result (λ verdict. verdict ≡ Partial → NoneTooWide report.now.blocks → ⊥) }
 {
     if !has_scales(game, report) {
         return Ok(Verdict::NoScale);
@@ -65,6 +67,8 @@ fn check_blocks(
     requires sizes { AllFit game.now pairs.now blocks.now }
     ensures not_scales { IfOk result (λ verdict. verdict ≡ NoScale → ⊥) }
     ensures certified { IfOk result (λ verdict. IsAccepted verdict → AreCertifiedBlocks game.now pairs.now blocks.now) }
+    ensures whole { IfOk result (λ verdict. verdict ≡ Yes → NoneTooWide blocks.now) }
+    ensures partly { IfOk result (λ verdict. verdict ≡ Partial → NoneTooWide blocks.now → ⊥) }
 {
     for k in 0..blocks.len() {
         let named = blocks.at(k);
@@ -87,9 +91,13 @@ fn check_blocks(
     })
 }
 
-fn some_too_wide(blocks: &BlockList) -> bool {
+/// Whether a block says that a tableau is too wide.
+pub fn some_too_wide(blocks: &BlockList) -> bool
+    ensures none { result ≡ false → NoneTooWide blocks.now }
+    ensures some { result ≡ true → NoneTooWide blocks.now → ⊥ }
+{
     for k in 0..blocks.len() {
-        if let Block::TooWide { .. } = &blocks.at(k).block {
+        if let Block::TooWide { .. } = blocks.at(k).block {
             return true;
         }
     }

@@ -14,8 +14,10 @@ use Rattle.corr_game.specs.declared.plans.Pair.{Pair}
 use Rattle.corr_game.specs.declared.sides.Side.TheVariants.{One, Two}
 use Rattle.equilibrium.specs.Distribution.{IsEntry, entries_of, entry_of}
 use Rattle.lp_form.specs.Program.{LpView}
-use Rattle.notion_solve.specs.Right.{IsRight, IsRightCorner, IsRightEmpty, IsRightFor, IsRightSide}
+use Rattle.notion_solve.specs.Right.{IsRight, IsRightCorner, IsRightEmpty, IsRightFor}
+use Rattle.notion_solve.specs.Shown.{IsShownSide}
 use Rattle.plane_hull.specs.declared.sides.SideRow.{SideRow}
+use Rattle.report_form.specs.Ranges.{IsReport}
 use Rattle.report_form.specs.View.{ReportView}
 use Rattle.report_form.specs.declared.reports.Block.{Block}
 use Rattle.report_form.specs.declared.reports.Block.TheVariants.{Found, Empty, TooWide}
@@ -66,7 +68,7 @@ corner_true notion g p corner right = (
   ),
 )
 
-side_true : (g : GameView) (lp : LpView) (corners : List Corner) (side : SideRow) → IsRightSide g lp corners side
+side_true : (g : GameView) (lp : LpView) (corners : List Corner) (side : SideRow) → IsShownSide g lp corners side
     → IsTrueSide g lp corners side
 side_true g lp corners side right =
     let certified = right.certified in (
@@ -101,12 +103,13 @@ blocks_true notion g p lp (Found corners sides) right = (
 blocks_true notion g p lp (Empty multipliers) right = empty_true notion g lp multipliers right
 blocks_true notion g p lp (TooWide basis place) right = tt
 
-pub reports_true : (g : GameView) (p : PairsView) (report : ReportView) → HasScales g report
+pub reports_true : (g : GameView) (p : PairsView) (report : ReportView) → IsReport report → HasScales g report
     → All (λ named. IsRightFor g p named.notion named.block) report.blocks → IsTrueReport g p report
-reports_true g p report scales blocks = record {
+reports_true g p report ranges scales blocks = record {
+  ranges = ranges;
   scales = scales;
   blocks = λ k d inside.
       let right = blocks k d inside in
       let named = get_or report.blocks k d in
-      (right.0, right.1, blocks_true named.notion g p right.0 named.block right.2);
+      (right.0, right.1, blocks_true named.notion g p right.0 named.block right.3);
 }

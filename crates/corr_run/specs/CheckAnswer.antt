@@ -3,7 +3,7 @@ use Rattle.std.specs.Prelude.{◌≡◌, ℕ, ◌^◌, ◌<◌, ◌≤◌, List,
 use Rattle.answer_text.specs.VerdictText.{verdict_text}
 use Rattle.cert_check.specs.declared.verdicts.Verdict.{Verdict}
 use Rattle.cert_check.specs.declared.verdicts.Verdict.TheVariants as verdict
-use Rattle.cert_check.specs.Certified.{AreCertifiedBlocks, IsAccepted}
+use Rattle.cert_check.specs.Certified.{AreCertifiedBlocks, IsAccepted, NoneTooWide}
 use Rattle.cert_check.specs.Scales.{HasScales}
 use Rattle.connected_pairs.specs.Connected.{PairsView}
 use Rattle.corr_game.specs.Game.{GameView}
@@ -25,12 +25,14 @@ verdict_status verdict.Partial = TooWide
 verdict_status verdict.NoScale = No
 verdict_status (verdict.No notion at broken) = No
 
--- what is known of a verdict on a report: it says that the scales aren't the game's exactly where they aren't, and where it
--- finds no rule broken each block is certified
+-- what is known of a verdict on a report: it says that the scales aren't the game's exactly where they aren't; where it finds no
+-- rule broken each block is certified; it is yes only where no block is too wide, and partly yes only where one is
 pub record IsVerdict (g : GameView) (p : PairsView) (report : ReportView) (given : Verdict) : Type 0 where
   pub scales_differ : given ≡ verdict.NoScale → HasScales g report → ⊥
   pub no_scale : (HasScales g report → ⊥) → given ≡ verdict.NoScale
   pub certified : IsAccepted given → AreCertifiedBlocks g p report.blocks
+  pub whole : given ≡ verdict.Yes → NoneTooWide report.blocks
+  pub partly : given ≡ verdict.Partial → NoneTooWide report.blocks → ⊥
 
 -- a report in its ranges was read from the front of the input, up to this place
 pub record IsReadUpTo (input : List ℕ) (place : ℕ) (report : ReportView) : Type 0 where

@@ -1,12 +1,11 @@
 -- Reports on a file, by the notions that were selected.
-use Rattle.std.specs.Prelude.{◌≡◌, ◌⊎◌, ℕ, ◌≤◌, Bool, true, false, List, [], ◌∷◌, map, All}
+pub use Rattle.cert_check.specs.Certified.{NoneTooWide, is_too_wide}
+use Rattle.std.specs.Prelude.{◌≡◌, ◌⊎◌, ℕ, ◌≤◌, List, [], ◌∷◌, map, All}
 use Rattle.corr_game.specs.declared.notions.Notion.{Notion}
 use Rattle.corr_game.specs.Game.{GameView}
 use Rattle.connected_pairs.specs.Connected.{PairsView}
 use Rattle.incentive_rows.specs.Size.{HasSize}
 use Rattle.notion_solve.specs.Shown.{IsShownFor}
-use Rattle.report_form.specs.declared.reports.Block.{Block}
-use Rattle.report_form.specs.declared.reports.Block.TheVariants.{Found, Empty, TooWide}
 use Rattle.report_form.specs.declared.reports.NamedBlock.{NamedBlock}
 use Rattle.report_form.specs.Ranges.{IsBlock}
 use Rattle.command_words.specs.declared.commands.Notions.{Notions}
@@ -38,16 +37,6 @@ AreBlocksOf notions blocks = notions_of blocks ≡ selected notions
 -- each block is shown of its notion's program
 abbrev pub AreShown : GameView → PairsView → List NamedBlock → Type 0
 AreShown g p blocks = All (λ (named : NamedBlock). IsShownFor g p named.notion named.block) blocks
-
--- whether a block says that a tableau is too wide
-abbrev pub is_too_wide : Block → Bool
-is_too_wide (Found corners sides) = false
-is_too_wide (Empty multipliers) = false
-is_too_wide (TooWide basis place) = true
-
--- no block says so
-abbrev pub NoneTooWide : List NamedBlock → Type 0
-NoneTooWide blocks = All (λ (named : NamedBlock). is_too_wide named.block ≡ false) blocks
 
 -- the status of a report with these blocks
 abbrev pub HasStatus : List NamedBlock → Status → Type 0

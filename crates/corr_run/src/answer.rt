@@ -1,18 +1,19 @@
 // The answer to a game's file: a whole text and a status.
-ghost use Rattle.std.specs.Prelude.{◌≡◌, true, false, IfOk};
+ghost use Rattle.std.specs.Prelude.{◌≡◌, IfOk};
 ghost use Rattle.corr_run.specs.SolveAnswer.{IsGeneral, SolveAnswer};
 ghost use Rattle.report_text.specs.RefusalText.{refusal_text};
 ghost use Rattle.report_text.specs.ReportText.{report_text};
-ghost use Rattle.corr_run.specs.Reports.{HasStatus, NoneTooWide};
+ghost use Rattle.corr_run.specs.Reports.{HasStatus};
 ghost use Rattle.command_words.specs.Selection.{SelectsSome};
 
 use crate::Status;
 use crate::one_node::report_of;
 use crate::solving::solve_file;
+use cert_check::some_too_wide;
 use command_words::Notions;
 use either::{Left, Right};
 use one_node_file::first_form;
-use report_form::{Block, BlockList, Refusal, Report};
+use report_form::{Refusal, Report};
 use report_text::{write_refusal, write_report};
 use std::alloc::{AllocError, Global};
 
@@ -36,19 +37,6 @@ pub fn refused(alloc: Global, refusal: &Refusal) -> Result<Answer, AllocError>
         text,
         status: Status::Refused,
     })
-}
-
-/// Whether a block names a tableau that is too wide.
-pub fn some_too_wide(blocks: &BlockList) -> bool
-    ensures none { result ≡ false → NoneTooWide blocks.now }
-    ensures some { result ≡ true → NoneTooWide blocks.now → ⊥ }
-{
-    for k in 0..blocks.len() {
-        if let Block::TooWide { .. } = blocks.at(k).block {
-            return true;
-        }
-    }
-    false
 }
 
 /// The report's text, with the status that its blocks give.

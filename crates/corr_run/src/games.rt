@@ -9,9 +9,10 @@ ghost use Rattle.corr_run.specs.WorkAnswer.{WorkAnswer};
 ghost use Rattle.corr_run.specs.Reports.{HasStatus};
 
 use crate::Status;
-use crate::answer::{Answer, SOLVE_LIMIT, refused, some_too_wide};
+use crate::answer::{Answer, SOLVE_LIMIT, refused};
 use crate::solving::solve_file;
 use answer_text::write_summary;
+use cert_check::some_too_wide;
 use command_words::Notions;
 use either::{Left, Right};
 use game_gen::{GenRefusal, Kind, generate};

@@ -7,6 +7,7 @@ ghost use Rattle.corr_game.specs.Game.{GameView};
 ghost use Rattle.corr_game.specs.declared.notions.Notion.{Notion};
 ghost use Rattle.lp_form.specs.Program.{LpView};
 ghost use Rattle.notion_solve.specs.Right.{IsRight, IsRightFor};
+ghost use Rattle.report_form.specs.Ranges.{IsReport};
 ghost use Rattle.report_form.specs.View.{ReportView};
 ghost use Rattle.report_form.specs.declared.reports.Block.{Block};
 
@@ -16,8 +17,8 @@ pub fn right_blocks_are_true()
         → IsRight notion g p lp block → IsTrueBlock g lp notion block }
 {}
 
-/// So is a report with the game's scales, all of whose blocks are right.
+/// So is a report in its ranges with the game's scales, all of whose blocks are right.
 pub fn right_reports_are_true()
-    ensures { (g : GameView) (p : PairsView) (report : ReportView) → HasScales g report
+    ensures { (g : GameView) (p : PairsView) (report : ReportView) → IsReport report → HasScales g report
         → All (λ named. IsRightFor g p named.notion named.block) report.blocks → IsTrueReport g p report }
 {}

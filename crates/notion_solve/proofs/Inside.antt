@@ -21,6 +21,7 @@ use Rattle.report_form.specs.Certified.{IsCertified}
 use Rattle.report_form.specs.declared.reports.Corner.{Corner}
 use Rattle.report_form.specs.Points.{points_of}
 use Rattle.notion_solve.specs.Paid.{point_paid}
+use Rattle.notion_solve.specs.Shown.{IsShownSide}
 
 -- the pay of a solution in direction (a, b), taken den times
 pay_over : (a b den p q s t od td : ℤ) → den *ℤ ((a *ℤ (s *ℤ (p *ℤ t)) +ℤ b *ℤ (t *ℤ (q *ℤ s))) *ℤ (od *ℤ td)) ≡ s *ℤ t *ℤ (od *ℤ td) *ℤ (den *ℤ (a *ℤ p +ℤ b *ℤ q))
@@ -78,7 +79,8 @@ inside g lp corners side total x game program fractions certified solution =
     lowest : IsLowest point.one × IsLowest point.two
     lowest = fractions side.corner point there
 
-pub certified_at : (g : GameView) (lp : LpView) (corners : List Corner) (sides : List SideRow) (k : ℕ) (side : SideRow) → All (IsCertified g lp corners) sides
+pub shown_at : (g : GameView) (lp : LpView) (corners : List Corner) (sides : List SideRow) (k : ℕ) (side : SideRow) → All (IsShownSide g lp corners) sides
     → slice_get sides k ≡ Some side → IsCertified g lp corners side
-certified_at g lp corners sides k side all at =
-    subst (λ s. IsCertified g lp corners s) (get_or_from_slice_get sides k side side at) (all k side (slice_get_within sides k side at))
+shown_at g lp corners sides k side all at =
+    let shown = all k side (slice_get_within sides k side at) in
+    subst (λ s. IsCertified g lp corners s) (get_or_from_slice_get sides k side side at) shown.certified

@@ -6,15 +6,18 @@ use Rattle.std.proofs.lemmas.Option.{get_or_from_slice_get, slice_get_within}
 use Rattle.sequences.proofs.Adding.{pushed, still}
 use Rattle.exact_algebra.proofs.Order.{cancel_positive}
 use Rattle.exact_algebra.proofs.RingTactic.{ring_laws, linear}
+use Rattle.corr_game.specs.declared.sides.Side.{Side}
 use Rattle.corr_game.specs.declared.sides.Side.TheVariants.{One, Two}
 use Rattle.corr_game.specs.Game.{GameView, scale_of}
+use Rattle.corr_num.specs.Narrow.{Narrow}
 use Rattle.lp_form.specs.Program.{IsProgram, LpView}
+use Rattle.lp_form.specs.Solutions.{paid}
 use Rattle.plane_hull.specs.declared.sides.SideRow.{SideRow}
 use Rattle.polygon_sweep.specs.declared.corners.SweptCorner.{SweptCorner}
 use Rattle.polygon_sweep.specs.Swept.{IsCornerOf, IsSideAmong, number_in}
 use Rattle.report_form.specs.declared.reports.Corner.{Corner}
-use Rattle.report_form.specs.Certified.{IsCertified, IsPointIn}
-use Rattle.notion_solve.specs.Shown.{ArePointsOf}
+use Rattle.report_form.specs.Certified.{IsPointIn}
+use Rattle.notion_solve.specs.Shown.{ArePointsOf, IsShownSide}
 
 -- p over q is one over den times the scale, and first over made is one over den: so p over q is first over made times the scale
 same_point : (p q one den scale first made : ℤ) → pos 0 <ℤ den → p *ℤ (den *ℤ scale) ≡ one *ℤ q → first *ℤ den ≡ one *ℤ made → p *ℤ (made *ℤ scale) ≡ first *ℤ q
@@ -37,24 +40,32 @@ corner_among lp swept k found all at =
     subst (λ c. IsCornerOf lp c) (get_or_from_slice_get swept k found found at) (all k found (slice_get_within swept k found at))
 
 pub certified_side : (g : GameView) (lp : LpView) (swept : List SweptCorner) (corners : List Corner) (side : SideRow) → IsProgram lp → All (IsCornerOf lp) swept → ArePointsOf g swept corners
-    → IsSideAmong lp swept side → IsCertified g lp corners side
+    → IsSideAmong lp swept side → IsShownSide g lp corners side
 certified_side g lp swept corners side program all points h =
     let (corner, at, point) = points side.corner h.corner h.at in
     let own = h.point program in
     let positive = (corner_among lp swept side.corner h.corner all h.at).positive in
     record {
-      multipliers = h.certified.certified;
-      corner = corner;
-      at = at;
-      point = record {
-        first = same_point _ _ h.corner.one h.corner.den (scale_of One g) (number_in side.first 0) side.den positive point.first own.one;
-        second = same_point _ _ h.corner.two h.corner.den (scale_of Two g) (number_in side.second 0) side.den positive point.second own.two;
+      certified = record {
+        multipliers = h.certified.certified;
+        corner = corner;
+        at = at;
+        point = record {
+          first = same_point _ _ h.corner.one h.corner.den (scale_of One g) (number_in side.first 0) side.den positive point.first own.one;
+          second = same_point _ _ h.corner.two h.corner.den (scale_of Two g) (number_in side.second 0) side.den positive point.second own.two;
+        };
       };
+      narrow = h.certified.narrow;
     }
 
 pub certified_sides : (g : GameView) (lp : LpView) (swept : List SweptCorner) (corners : List Corner) (sides : List SideRow) → IsProgram lp → All (IsCornerOf lp) swept → ArePointsOf g swept corners
-    → All (IsSideAmong lp swept) sides → All (IsCertified g lp corners) sides
+    → All (IsSideAmong lp swept) sides → All (IsShownSide g lp corners) sides
 certified_sides g lp swept corners sides program all points among k d inside = certified_side g lp swept corners _ program all points (among k d inside)
+
+-- what a swept corner's values pay is narrow
+pub paid_narrow : (lp : LpView) (corner : SweptCorner) → IsCornerOf lp corner → (side : Side) → Narrow (paid lp side (number_in corner.values))
+paid_narrow lp corner at One = subst (λ (z : ℤ). Narrow z) at.pays_one at.one
+paid_narrow lp corner at Two = subst (λ (z : ℤ). Narrow z) at.pays_two at.two
 
 -- the corners that belong to the first n swept ones
 abbrev pub ArePointsBelow : GameView → List SweptCorner → ℕ → List Corner → Type 0

@@ -14,7 +14,8 @@ use Rattle.plane_hull.specs.Mixture.{IsMixture}
 use Rattle.plane_hull.specs.StrictPolygon.{AreCornersInside}
 use Rattle.report_form.specs.declared.reports.Corner.{Corner}
 use Rattle.report_form.specs.Points.{points_of}
-use Rattle.notion_solve.specs.Right.{IsPaid, IsRightCorner, IsRightEmpty, IsRightPolygon, IsRightSide}
+use Rattle.notion_solve.specs.Right.{IsPaid, IsRightCorner, IsRightEmpty, IsRightPolygon}
+use Rattle.notion_solve.specs.Shown.{IsShownSide}
 
 -- two whole numbers above 0 are at least 1
 over_one : {n : ℤ} → pos 1 ≤ℤ n → pos 0 <ℤ n
@@ -25,8 +26,8 @@ element P xs k x all at = subst (λ y. P y) (get_or_from_slice_get xs k x x at) 
 
 module _ (notion : Notion) (g : GameView) (p : PairsView) (lp : LpView) (corners : List Corner) (sides : List SideRow)
     (right : IsRightPolygon notion g p lp corners sides) where
-  side_at : (k : ℕ) (side : SideRow) → slice_get sides k ≡ Some side → IsRightSide g lp corners side
-  side_at k side at = element (IsRightSide g lp corners) sides k side right.each_side at
+  side_at : (k : ℕ) (side : SideRow) → slice_get sides k ≡ Some side → IsShownSide g lp corners side
+  side_at k side at = element (IsShownSide g lp corners) sides k side right.each_side at
 
   point_there : (k : ℕ) (corner : Corner) → slice_get corners k ≡ Some corner → slice_get (points_of corners) k ≡ Some corner.point
   point_there k corner at =

@@ -1,6 +1,6 @@
 -- When a block is right: what it says of the equilibria of its game (von Stengel and Forges 2008; Farina, Bianchi and Sandholm 2020),
 -- with the multipliers that show it (Dantzig 1963; Farkas 1902).
-use Rattle.std.specs.Prelude.{◌↔◌, ◌≡◌, ℕ, ◌<◌, ◌≤◌, List, length, All, ℤ, pos, ◌<ℤ◌}
+use Rattle.std.specs.Prelude.{◌↔◌, ◌≡◌, ◌≤◌, List, length, All, ℤ, pos, ◌<ℤ◌}
 use Rattle.corr_game.specs.declared.notions.Notion.{Notion}
 use Rattle.corr_game.specs.declared.sides.Side.{Side}
 use Rattle.corr_game.specs.declared.sides.Side.TheVariants.{One, Two}
@@ -18,13 +18,14 @@ use Rattle.plane_hull.specs.Inside.{IsInside, PlanePoint}
 use Rattle.plane_hull.specs.StrictPolygon.{AreFractions, IsStrictPolygon}
 use Rattle.bland_simplex.specs.Multipliers.{HasNarrowColumns}
 use Rattle.bland_simplex.specs.Reachable.{IsWideBasis}
-use Rattle.polygon_sweep.specs.Swept.{LeavesNarrow}
 use Rattle.plan_polytope.specs.NotionProgram.{IsProgramOf}
-use Rattle.report_form.specs.Certified.{IsCertified, IsPointIn}
+use Rattle.report_form.specs.Certified.{IsPointIn}
 use Rattle.report_form.specs.declared.reports.Block.{Block}
 use Rattle.report_form.specs.declared.reports.Block.TheVariants.{Found, Empty, TooWide}
 use Rattle.report_form.specs.declared.reports.Corner.{Corner}
 use Rattle.report_form.specs.Points.{points_of}
+use Rattle.report_form.specs.Ranges.{IsBlock}
+use Rattle.notion_solve.specs.Shown.{IsShownSide}
 
 -- some equilibrium list pays a point of the plane
 abbrev pub IsPaid : Notion → GameView → PlanePoint → Type 0
@@ -44,11 +45,6 @@ pub record IsRightCorner (notion : Notion) (g : GameView) (p : PairsView) (corne
       IsPointIn g corner.point (following One g (entries_of corner.pairs)) (following Two g (entries_of corner.pairs)) corner.total
   pub few : length corner.pairs ≤ length p.pairs
 
--- a certified side, of whose columns the multipliers leave narrow numbers
-pub record IsRightSide (g : GameView) (lp : LpView) (corners : List Corner) (side : SideRow) : Type 0 where
-  pub certified : IsCertified g lp corners side
-  pub narrow : (col : ℕ) → col < lp.cols → LeavesNarrow lp side col
-
 -- a strict polygon, inside of which lies exactly what equilibrium lists pay
 pub record IsRightPolygon (notion : Notion) (g : GameView) (p : PairsView) (lp : LpView) (corners : List Corner)
     (sides : List SideRow) : Type 0 where
@@ -56,7 +52,7 @@ pub record IsRightPolygon (notion : Notion) (g : GameView) (p : PairsView) (lp :
   pub strict : IsStrictPolygon (scale_of One g) (scale_of Two g) (points_of corners) sides
   pub exactly : InsideIsPaid notion g corners sides
   pub each_corner : All (IsRightCorner notion g p) corners
-  pub each_side : All (IsRightSide g lp corners) sides
+  pub each_side : All (IsShownSide g lp corners) sides
 
 -- there is no equilibrium list, and narrow multipliers show that the program has no solution
 pub record IsRightEmpty (notion : Notion) (g : GameView) (lp : LpView) (multipliers : List ℤ) : Type 0 where
@@ -71,6 +67,6 @@ IsRight notion g p lp (Found corners sides) = IsRightPolygon notion g p lp corne
 IsRight notion g p lp (Empty multipliers) = IsRightEmpty notion g lp multipliers
 IsRight notion g p lp (TooWide basis place) = IsWideBasis lp basis place
 
--- a block is right for the notion of a game
+-- a block in its ranges is right for the notion of a game
 abbrev pub IsRightFor : GameView → PairsView → Notion → Block → Type 0
-IsRightFor g p notion block = (lp : LpView) × IsProgramOf g p notion lp × IsRight notion g p lp block
+IsRightFor g p notion block = (lp : LpView) × IsProgramOf g p notion lp × IsBlock block × IsRight notion g p lp block

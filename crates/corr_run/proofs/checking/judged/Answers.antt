@@ -24,6 +24,8 @@ returns c =
       scales_differ = c.in_ok-verdict.ensures.no_scale;
       no_scale = c.in_ok-verdict.ensures.scales;
       certified = c.in_ok-verdict.ensures.certified;
+      whole = c.in_ok-verdict.ensures.whole;
+      partly = c.in_ok-verdict.ensures.partly;
     })
     (rw c.blocks-3.ensures.blocks at c.in_ok-text.ensures)
     c.status_of.ensures

@@ -5,7 +5,7 @@ use Rattle.corr_num.proofs.PrintedTerms.{narrow_returned}
 use Rattle.notion_solve.proofs.Cutting.{cut_solution, cut_total}
 use Rattle.std.proofs.lemmas.Option.{slice_get_within}
 use Rattle.polygon_sweep.specs.Swept.{number_in}
-use Rattle.notion_solve.proofs.Points.{cut_value}
+use Rattle.notion_solve.proofs.Points.{cut_value, paid_narrow}
 use Rattle.notion_solve.proofs.Weighing.{entry_pairs}
 use Rattle.notion_solve.proofs.corners.corner_of.Goals as goal
 
@@ -44,8 +44,11 @@ returns-clause-reached c = λ lp at.
     let values = c.in_ok-values.values in
     let cut = rw c.len.ensures.count at c.in_ok-values.ensures.front in
     rw (narrow_returned c.args.corner.now.den at.den) (record {
+      entries = c.in_ok-pairs.ensures.entries;
+      few = c.in_ok-pairs.ensures.few;
       x = number_in c.args.corner.now.values;
       solution = at.solution;
+      narrow = paid_narrow lp c.args.corner.now at;
       point = rw (← at.pays_one, ← at.pays_two) c.point_of-point.ensures.point;
       sums = λ k pair here. rw (← cut_value c.args.corner.now.values values (length p.pairs) k cut (slice_get_within p.pairs k pair here)) (c.in_ok-pairs.ensures.sums k pair here);
     })
