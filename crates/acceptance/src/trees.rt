@@ -1,6 +1,7 @@
 // What the solver knows of a game's tree, held against plain programs that go through all nodes.
-ghost use Rattle.std.specs.Prelude.{◌≡◌, ℕ};
+ghost use Rattle.std.specs.Prelude.{◌≡◌, ℕ, length};
 ghost use Rattle.connected_pairs.specs.Connected.{IsPairsOf};
+ghost use Rattle.sequences.specs.Number.{side_of};
 
 use crate::games::{
     CHICKEN, COIN, DIAGONAL, DILEMMA, ENTRY, FORGETFUL, HEADS, LETTERS, ONE, ONE_CARD, SUMS,
@@ -15,12 +16,20 @@ use std::test::Fail;
 use tree_recall::recall;
 use triangle_test::{public_chance, triangle};
 
+/// How many sets a player has in the game, and so in the pairs.
+fn set_count(opened: &Opened, side: Side) -> u32
+    requires { IsPairsOf opened.now.game opened.now.pairs }
+    ensures { result ≡ length (side_of side opened.now.pairs.seqs).places }
+{
+    opened.game.sets(side)
+}
+
 /// Each two sets are connected in the solver's table exactly where they are in the tree.
 fn expect_connections(rt: &impl Abort, opened: &Opened)
     requires { IsPairsOf opened.now.game opened.now.pairs }
 {
-    for one in 0..opened.game.sets(Side::One) {
-        for two in 0..opened.game.sets(Side::Two) {
+    for one in 0..set_count(opened, Side::One) {
+        for two in 0..set_count(opened, Side::Two) {
             let (one, two) = (SetId(one), SetId(two));
             assert_eq!(rt;
                 opened.pairs.connected(one, two),
