@@ -1,0 +1,4 @@
+pub mod ColumnSums
+pub mod Decision
+pub mod Departure
+pub mod Values

@@ -1,0 +1,1 @@
+// Laws of equilibrium lists and solutions, as functions that do nothing.
