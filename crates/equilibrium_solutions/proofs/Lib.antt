@@ -1,0 +1,4 @@
+pub mod BaseRows
+pub mod Solving
+pub mod SumRows
+pub mod Telescoping
