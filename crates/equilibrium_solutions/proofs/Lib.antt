@@ -1,4 +1,5 @@
 pub mod BaseRows
+pub mod PaidLeaves
 pub mod Solving
 pub mod SumRows
 pub mod Telescoping
