@@ -3,3 +3,5 @@ pub mod PaidLeaves
 pub mod Solving
 pub mod SumRows
 pub mod Telescoping
+pub mod SetNodes
+pub mod Under
