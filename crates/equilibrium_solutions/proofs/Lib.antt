@@ -5,3 +5,5 @@ pub mod SumRows
 pub mod Telescoping
 pub mod SetNodes
 pub mod Under
+pub mod MoveNumbers
+pub mod Numbers
