@@ -1,9 +1,9 @@
 pub mod BaseRows
+pub mod MoveNumbers
+pub mod Numbers
 pub mod PaidLeaves
+pub mod SetNodes
 pub mod Solving
 pub mod SumRows
 pub mod Telescoping
-pub mod SetNodes
 pub mod Under
-pub mod MoveNumbers
-pub mod Numbers
