@@ -7,3 +7,4 @@ pub mod Solving
 pub mod SumRows
 pub mod Telescoping
 pub mod Under
+pub mod PlanMoves
