@@ -7,4 +7,5 @@ pub mod Solving
 pub mod SumRows
 pub mod Telescoping
 pub mod Under
+pub mod LeafGains
 pub mod PlanMoves

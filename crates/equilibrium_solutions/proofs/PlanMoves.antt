@@ -91,12 +91,13 @@ above_moved side g rules top m _ seq (further between action n up k) at own =
 moved_above : (side : Side) (g : GameView) (top n : ℕ) (seq : Moves) → IsOwnAt g side n seq → some_move (is_move top None) seq ≡ true
     → (m : ℕ) × (set_of g side m ≡ Some top) × IsAbove g m n
 moved_above side g top _ _ at_root h = absurd (cc)
-moved_above side g top _ _ (own_move m action n set seq own at k) h = elim (or_cases (nat_eq set.0 top) (some_move (is_move top None) seq) h) [
-  | inl here ↦ (m, at ∙ ap (λ (x : ℕ). Some x) (eqb-true set.0 top here), parent action n k)
-  | inr earlier ↦
-      let above = moved_above side g top m seq own earlier in
-      (above.0, above.1, further m action n above.2 k)
-]
+moved_above side g top _ _ (own_move m action n set seq own at k) h =
+    elim (or_cases (nat_eq set.0 top) (some_move (is_move top None) seq) h) [
+      | inl here ↦ (m, at ∙ ap (λ (x : ℕ). Some x) (eqb-true set.0 top here), parent action n k)
+      | inr earlier ↦
+          let above = moved_above side g top m seq own earlier in
+          (above.0, above.1, further m action n above.2 k)
+    ]
 moved_above side g top _ _ (other_move m action n seq own at k) h =
     let above = moved_above side g top m seq own h in
     (above.0, above.1, further m action n above.2 k)
@@ -156,7 +157,8 @@ led_by_moves side g rules recall n set seq at own plan =
     let named = names_all-plays plan seq in
     same_tests (leads side g plan set) (names_all plan seq) (λ h. named.1 (led.0 h)) (λ h. led.1 (named.0 h))
 
-own_moves : (side : Side) (g : GameView) → IsGame g → HasRecall g side → (n : ℕ) (seq : Moves) → IsOwnAt g side n seq → AreOwnMoves side g seq
+own_moves : (side : Side) (g : GameView) → IsGame g → HasRecall g side → (n : ℕ) (seq : Moves) → IsOwnAt g side n seq
+    → AreOwnMoves side g seq
 own_moves side g rules recall _ _ at_root = tt
 own_moves side g rules recall _ _ (own_move m action n set seq own at k) = (
   set_inside side g rules m set.0 at,
@@ -345,7 +347,8 @@ module _ (side : Side) (g : GameView) (plan : Plan) where
     graft_shift : (top : SetId) (action : Option ℕ) (met : Bool) (moves : Moves) → AreOwnMoves side g moves
         → (met ≡ true → leads side g plan top.0 ≡ true)
         → ((has_followed (Some top) action moves && names_all plan moves) ≡ true → met ≡ true)
-        → (met ≡ true → some_move (is_move top.0 None) moves ≡ true → names_all plan moves ≡ true → has_followed (Some top) action moves ≡ true)
+        → (met ≡ true → some_move (is_move top.0 None) moves ≡ true → names_all plan moves ≡ true
+        → has_followed (Some top) action moves ≡ true)
         → one_if (names_all (cond met (graft side g top.0 choice plan) plan) moves) -ℤ one_if (names_all plan moves)
         ≡ one_if (met && taken side g (Some top) choice moves) -ℤ one_if (has_followed (Some top) action moves && names_all plan moves)
     graft_shift top action met moves are led meets_it follows =
@@ -378,8 +381,8 @@ module _ (side : Side) (g : GameView) (plan : Plan) where
         ap (λ (b : Bool). one_if b -ℤ one_if (names_all plan moves)) (named_anew side g plan whole choice moves are)
         ∙ ap (λ (b : Bool). one_if (b && chosen) -ℤ one_if (names_all plan moves)) (sym (counted_all side g moves))
 
--- What a plan names more, of the own moves to a node, where its player leaves at a trigger: where the plan meets the trigger, what is behind
--- the trigger and the choice takes; but no more what the plan names and has followed the trigger.
+-- Leaving at a trigger a plan names besides, of the moves to a node, what is behind the trigger and taken by the choice, where the plan
+-- meets the trigger; and no more what it named and has followed the trigger.
 pub moves_of_deviated : (side : Side) (g : GameView) → IsGame g → HasRecall g side → (trigger : Trigger) (choice : List ℕ) (plan : Plan)
     → length plan ≡ length (sets_of side g) → (n : ℕ) (moves : Moves) → IsOwnAt g side n moves
     → one_if (names_all (deviated side g trigger choice plan) moves) -ℤ one_if (names_all plan moves)
@@ -389,8 +392,9 @@ moves_of_deviated side g rules recall trigger choice plan whole n moves own =
     deviated_shift side g plan whole choice trigger moves (own_moves side g rules recall n moves own)
 
 -- a plan that names own moves that have followed a trigger meets it
-pub meets_where_followed : (side : Side) (g : GameView) → IsGame g → HasRecall g side → (trigger : Trigger) (plan : Plan) (n : ℕ) (moves : Moves)
-    → IsOwnAt g side n moves → (has_followed (top_of trigger) (action_of trigger) moves && names_all plan moves) ≡ true
+pub meets_where_followed : (side : Side) (g : GameView) → IsGame g → HasRecall g side → (trigger : Trigger) (plan : Plan)
+    → (n : ℕ) (moves : Moves) → IsOwnAt g side n moves
+    → (has_followed (top_of trigger) (action_of trigger) moves && names_all plan moves) ≡ true
     → meets side g trigger plan ≡ true
 meets_where_followed side g rules recall trigger plan n moves own h =
     followed_meets side g plan trigger moves (own_moves side g rules recall n moves own) h
