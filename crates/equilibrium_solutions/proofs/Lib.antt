@@ -1,11 +1,11 @@
 pub mod BaseRows
+pub mod LeafGains
 pub mod MoveNumbers
 pub mod Numbers
 pub mod PaidLeaves
+pub mod PlanMoves
 pub mod SetNodes
 pub mod Solving
 pub mod SumRows
 pub mod Telescoping
 pub mod Under
-pub mod LeafGains
-pub mod PlanMoves
