@@ -8,4 +8,5 @@ pub mod SetNodes
 pub mod Solving
 pub mod SumRows
 pub mod Telescoping
+pub mod TestedSums
 pub mod Under
