@@ -9,4 +9,5 @@ pub mod Solving
 pub mod SumRows
 pub mod Telescoping
 pub mod TestedSums
+pub mod Triggers
 pub mod Under
