@@ -1,2 +1,3 @@
+pub mod Round
 pub mod Swept
 pub mod Turning
