@@ -11,3 +11,4 @@ pub mod Telescoping
 pub mod TestedSums
 pub mod Triggers
 pub mod Under
+pub mod Departing
