@@ -1,4 +1,5 @@
 pub mod BaseRows
+pub mod Departing
 pub mod LeafGains
 pub mod MoveNumbers
 pub mod Numbers
@@ -11,4 +12,3 @@ pub mod Telescoping
 pub mod TestedSums
 pub mod Triggers
 pub mod Under
-pub mod Departing
