@@ -4,6 +4,7 @@ pub mod LeafGains
 pub mod MoveNumbers
 pub mod Numbers
 pub mod PaidLeaves
+pub mod ListGains
 pub mod PlanMoves
 pub mod SetNodes
 pub mod Solving
