@@ -1,6 +1,6 @@
 -- What a player gains by leaving at a trigger in a list of weighted pairs of plans, leaf by leaf: by induction on the list. Where the choice
 -- comes to a leaf by itself the entries count that meet the trigger, and no more those that came there by following it.
-use Rattle.std.proofs.Common.{◌≡◌, ◌↔◌, ℕ, ◌<◌, Bool, true, false, ◌&&◌, cond, List, [], ◌∷◌, All, length, slice_get}
+use Rattle.std.proofs.Common.{◌≡◌, ◌↔◌, ℕ, Bool, true, false, ◌&&◌, cond, List, [], ◌∷◌, All, length, slice_get}
 use Rattle.std.proofs.Common.{ℤ, pos, ◌+ℤ◌, ◌-ℤ◌, ◌*ℤ◌, ◌≤ℤ◌, refl, sym, ap, ap₂, ◌∙◌, arith}
 use Rattle.std.proofs.lemmas.Int.{ints}
 use Rattle.std.proofs.lemmas.List.Elements.{All-head, All-tail}
@@ -96,6 +96,21 @@ no_parts false false a = *ℤ-zero a
 gathered : (x y s r : ℤ) → x +ℤ s -ℤ (y +ℤ r) ≡ (x -ℤ y) +ℤ (s -ℤ r)
 gathered x y s r = omega (arith, ints)
 
+apart : (taken followed : Bool) (a m p : ℤ)
+    → a *ℤ (cond taken m (pos 0) -ℤ cond followed p (pos 0)) ≡ cond taken (a *ℤ m) (pos 0) -ℤ cond followed (a *ℤ p) (pos 0)
+apart taken followed a m p =
+    *ℤ-difference a (cond taken m (pos 0)) (cond followed p (pos 0)) ∙ ap₂ (λ (x y : ℤ). x -ℤ y) (inside taken m) (inside followed p)
+  where
+    inside : (test : Bool) (z : ℤ) → a *ℤ cond test z (pos 0) ≡ cond test (a *ℤ z) (pos 0)
+    inside true z = refl
+    inside false z = *ℤ-zero a
+
+at_most : (l f x y : ℤ) → l -ℤ f ≡ x -ℤ y → l ≤ℤ f → x ≤ℤ y
+at_most l f x y e h = omega (arith, ints)
+
+at_most_back : (l f x y : ℤ) → l -ℤ f ≡ x -ℤ y → x ≤ℤ y → l ≤ℤ f
+at_most_back l f x y e h = omega (arith, ints)
+
 -- ---- gains
 
 module _ (side : Side) (g : GameView) (rules : IsGame g) (recall : HasRecall g side) (own : OwnSequences side g)
@@ -145,3 +160,32 @@ module _ (side : Side) (g : GameView) (rules : IsGame g) (recall : HasRecall g s
       ∙ sum_to-same (length g.nodes) _ _ (λ n low. parts_together (taken side g (top_of trigger) choice (own.node n))
       (has_followed (top_of trigger) (action_of trigger) (own.node n)) (amount n) (met_in side g trigger others.node n e)
       (played_in side own.node others.node n e) (met side g trigger others.node list n) (played side own.node others.node list n))
+
+  -- what those who leave get at the leaves to which the choice comes, and what those who follow get behind the trigger
+  abbrev pub got_behind : List Entry → ℤ
+  got_behind list = sum_to (length g.nodes) (λ n. cond (taken side g (top_of trigger) choice (own.node n))
+      (leaf_amount side (slice_get g.nodes n) *ℤ met side g trigger others.node list n) (pos 0))
+
+  abbrev pub followed_behind : List Entry → ℤ
+  followed_behind list = sum_to (length g.nodes) (λ n. cond (has_followed (top_of trigger) (action_of trigger) (own.node n))
+      (leaf_amount side (slice_get g.nodes n) *ℤ played side own.node others.node list n) (pos 0))
+
+  pub gains_by_sums : (list : List Entry) → All (IsEntry g) list
+      → leaving side g trigger choice list -ℤ following side g list ≡ got_behind list -ℤ followed_behind list
+  gains_by_sums list each =
+      gains_by_leaves list each
+      ∙ sum_to-same (length g.nodes) _ _ (λ n low. apart (taken side g (top_of trigger) choice (own.node n))
+      (has_followed (top_of trigger) (action_of trigger) (own.node n)) (amount n) (met side g trigger others.node list n)
+      (played side own.node others.node list n))
+      ∙ sum_to-difference (length g.nodes) _ _
+
+  -- with no slack leaving gains no more exactly where what is got behind the trigger is at most what following gets there
+  pub no_gain_where : (list : List Entry) → All (IsEntry g) list
+      → GainsNoMore side g no_slack list trigger choice ↔ (got_behind list ≤ℤ followed_behind list)
+  no_gain_where list each =
+      let left = leaving side g trigger choice list in
+      let stays = following side g list in
+      let gain = gains_by_sums list each in (
+        λ h. at_most left stays (got_behind list) (followed_behind list) gain (no_more left stays (scale_of side g) (total list) h),
+        λ h. no_more_back left stays (scale_of side g) (total list) (at_most_back left stays (got_behind list) (followed_behind list) gain h),
+      )
