@@ -1,10 +1,10 @@
 pub mod BaseRows
 pub mod Departing
 pub mod LeafGains
+pub mod ListGains
 pub mod MoveNumbers
 pub mod Numbers
 pub mod PaidLeaves
-pub mod ListGains
 pub mod PlanMoves
 pub mod SetNodes
 pub mod Solving
