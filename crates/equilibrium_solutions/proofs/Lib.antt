@@ -13,3 +13,6 @@ pub mod Telescoping
 pub mod TestedSums
 pub mod Triggers
 pub mod Under
+pub mod RowPlaces
+pub mod RowSums
+pub mod RowTerms
