@@ -6,6 +6,9 @@ pub mod MoveNumbers
 pub mod Numbers
 pub mod PaidLeaves
 pub mod PlanMoves
+pub mod RowPlaces
+pub mod RowSums
+pub mod RowTerms
 pub mod SetNodes
 pub mod Solving
 pub mod SumRows
@@ -13,6 +16,3 @@ pub mod Telescoping
 pub mod TestedSums
 pub mod Triggers
 pub mod Under
-pub mod RowPlaces
-pub mod RowSums
-pub mod RowTerms
