@@ -16,3 +16,4 @@ pub mod Telescoping
 pub mod TestedSums
 pub mod Triggers
 pub mod Under
+pub mod Spreading
