@@ -17,3 +17,4 @@ pub mod TestedSums
 pub mod Triggers
 pub mod Under
 pub mod Spreading
+pub mod ValueColumns
