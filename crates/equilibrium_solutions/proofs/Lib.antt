@@ -11,10 +11,10 @@ pub mod RowSums
 pub mod RowTerms
 pub mod SetNodes
 pub mod Solving
+pub mod Spreading
 pub mod SumRows
 pub mod Telescoping
 pub mod TestedSums
 pub mod Triggers
 pub mod Under
-pub mod Spreading
 pub mod ValueColumns
