@@ -1,5 +1,6 @@
 pub mod BaseRows
 pub mod Departing
+pub mod LeafColumns
 pub mod LeafGains
 pub mod ListGains
 pub mod MoveNumbers
