@@ -32,7 +32,7 @@ abbrev pub walk_of : Side → GameView → Plan → Plan → ℤ
 walk_of One g own others = walk One g own others 0
 walk_of Two g own others = walk Two g others own 0
 
-and_swapped : (a b : Bool) → (a && b) ≡ (b && a)
+pub and_swapped : (a b : Bool) → (a && b) ≡ (b && a)
 and_swapped true true = refl
 and_swapped true false = refl
 and_swapped false true = refl

@@ -1,5 +1,5 @@
--- What a player gains by leaving at a trigger in a list of weighted pairs of plans, leaf by leaf: by induction on the list. Where the choice
--- comes to a leaf by itself the entries count that meet the trigger, and no more those that came there by following it.
+-- What a player gains by leaving at a trigger in a list of weighted pairs of plans, leaf by leaf, by induction on the list: at a leaf to
+-- which the choice comes the entries count that meet the trigger, and no more those that came there by following it.
 use Rattle.std.proofs.Common.{◌≡◌, ◌↔◌, ℕ, Bool, true, false, ◌&&◌, cond, List, [], ◌∷◌, All, length, slice_get}
 use Rattle.std.proofs.Common.{ℤ, pos, ◌+ℤ◌, ◌-ℤ◌, ◌*ℤ◌, ◌≤ℤ◌, refl, sym, ap, ap₂, ◌∙◌, arith}
 use Rattle.std.proofs.lemmas.Int.{ints}
@@ -21,7 +21,7 @@ use Rattle.equilibrium.specs.Equilibrium.{GainsNoMore, no_slack}
 use Rattle.equilibrium.specs.Leaves.{leaf_amount, names_all}
 use Rattle.equilibrium.proofs.Nesting.{no_more, no_more_back}
 use Rattle.equilibrium_solutions.specs.Departure.{OwnSequences, has_followed}
-use Rattle.equilibrium_solutions.proofs.LeafGains.{gains_of_entry}
+use Rattle.equilibrium_solutions.proofs.LeafGains.{and_swapped, gains_of_entry}
 use Rattle.equilibrium_solutions.proofs.PlanMoves.{action_of, one_if, taken, top_of}
 
 abbrev Moves : Type 0
@@ -55,12 +55,6 @@ weight_if true false true w = *ℤ-zero w
 weight_if false false true w = *ℤ-zero w
 weight_if true false false w = *ℤ-zero w
 weight_if false false false w = *ℤ-zero w
-
-and_swapped : (a b : Bool) → (a && b) ≡ (b && a)
-and_swapped true true = refl
-and_swapped true false = refl
-and_swapped false true = refl
-and_swapped false false = refl
 
 spread : (w a o x y : ℤ) → w *ℤ (a *ℤ (o *ℤ (x -ℤ y))) ≡ a *ℤ (w *ℤ (o *ℤ x) -ℤ w *ℤ (o *ℤ y))
 spread w a o x y = simp ring_laws (omega (arith, linear))
@@ -187,5 +181,7 @@ module _ (side : Side) (g : GameView) (rules : IsGame g) (recall : HasRecall g s
       let stays = following side g list in
       let gain = gains_by_sums list each in (
         λ h. at_most left stays (got_behind list) (followed_behind list) gain (no_more left stays (scale_of side g) (total list) h),
-        λ h. no_more_back left stays (scale_of side g) (total list) (at_most_back left stays (got_behind list) (followed_behind list) gain h),
+        λ h.
+            let none = at_most_back left stays (got_behind list) (followed_behind list) gain h in
+            no_more_back left stays (scale_of side g) (total list) none,
       )
