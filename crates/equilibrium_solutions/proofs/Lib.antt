@@ -1,5 +1,6 @@
 pub mod BaseRows
 pub mod Departing
+pub mod Gettings
 pub mod LeafColumns
 pub mod LeafGains
 pub mod ListGains
