@@ -20,3 +20,5 @@ pub mod TestedSums
 pub mod Triggers
 pub mod Under
 pub mod ValueColumns
+pub mod Departing
+pub mod Relevance
