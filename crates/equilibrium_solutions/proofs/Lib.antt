@@ -8,6 +8,7 @@ pub mod MoveNumbers
 pub mod Numbers
 pub mod PaidLeaves
 pub mod PlanMoves
+pub mod Relevance
 pub mod RowPlaces
 pub mod RowSums
 pub mod RowTerms
@@ -20,5 +21,3 @@ pub mod TestedSums
 pub mod Triggers
 pub mod Under
 pub mod ValueColumns
-pub mod Departing
-pub mod Relevance
