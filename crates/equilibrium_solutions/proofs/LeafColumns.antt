@@ -1,6 +1,6 @@
 -- The weights of a list that come to a leaf stand in columns: of the entries that meet a trigger in that of the trigger's sequence, of those
 -- that play the leaf's own moves in that of the leaf's two sequences.
-use Rattle.std.proofs.Common.{◌≡◌, ◌↔◌, ℕ, ◌<◌, ◌&&◌, List, length, Option, Some, slice_get, slice_index, ℤ}
+use Rattle.std.proofs.Common.{◌≡◌, ◌↔◌, ℕ, ◌<◌, ◌&&◌, List, length, Some, slice_get, slice_index, ℤ}
 use Rattle.corr_game.specs.declared.notions.Notion.{Notion}
 use Rattle.corr_game.specs.declared.sides.Side.{Side}
 use Rattle.corr_game.specs.Game.{GameView, IsGame}
