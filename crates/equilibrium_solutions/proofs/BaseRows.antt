@@ -75,10 +75,14 @@ module _ (g : GameView) (p : PairsView) (rules : IsPairs p) (of : IsPairsOf g p)
         let met = sums_meet_rows g p of rules list x are sums in
         let place = within (side_of row.0.side p.seqs).places row.0.set.0 (omega (arith, (of.sides row.0.side).per_set, known.0)) in
         let at_place : IsAtPlace p row.0 place.0 = record { here = place.1; in_range = known.1 } in
-        let moves = sum_to-same place.0.actions _ _ (λ a h. value_alike row.0.side (place.0.first + a) row.0.beside) in
+        let moved : ℕ → ℤ = λ a. at (column_of p row.0.side (place.0.first + a) row.0.beside) y in
+        let passed : ℤ = at (column_of p row.0.side place.0.own row.0.beside) y in
+        let alike : sum_to place.0.actions moved ≡ passed =
+        sum_to-same place.0.actions _ _ (λ a h. value_alike row.0.side (place.0.first + a) row.0.beside)
+        ∙ met.row row.0.side row.0.set.0 place.0 row.0.beside place.1 known.1 known.2
+        ∙ sym (value_alike row.0.side place.0.own row.0.beside) in
         row_product p rules row.0 place.0 lp (r + 1) n y wide at_place (rows.filled r row.0 row.1)
-        ∙ nothing_left _ _ (moves ∙ met.row row.0.side row.0.set.0 place.0 row.0.beside place.1 known.1 known.2
-        ∙ sym (value_alike row.0.side place.0.own row.0.beside))
+        ∙ nothing_left (sum_to place.0.actions moved) passed alike
       where
         nothing_left : (a b : ℤ) → a ≡ b → a -ℤ b ≡ pos 0
         nothing_left a b e = omega (arith, ints)

@@ -1,6 +1,7 @@
 pub mod BaseRows
 pub mod Departing
 pub mod Gettings
+pub mod Improving
 pub mod LeafColumns
 pub mod LeafGains
 pub mod ListGains
