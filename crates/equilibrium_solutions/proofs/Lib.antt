@@ -9,6 +9,7 @@ pub mod MoveNumbers
 pub mod Numbers
 pub mod PaidLeaves
 pub mod PlanMoves
+pub mod ReducedPlans
 pub mod Relevance
 pub mod RowPlaces
 pub mod RowSums

@@ -92,7 +92,7 @@ module _ (g : GameView) (p : PairsView) (pairs : IsPairs p) (of : IsPairsOf g p)
   is_trigger Nfcce trigger is = rw is (Start, tt, refl)
 
   module _ (rules : IsGame g) (recall : HasRecall g side) (own : OwnSequences side g) where
-    leads_named : (plan : List (Option ℕ)) (set : ℕ) → set < length (sets_of side g)
+    pub leads_named : (plan : List (Option ℕ)) (set : ℕ) → set < length (sets_of side g)
         → (leads side g plan set ≡ true) ↔ (names_all plan (own.set set) ≡ true)
     leads_named plan set low =
         let node = has_node side g rules set low in
