@@ -16,6 +16,7 @@ pub mod RowSums
 pub mod RowTerms
 pub mod SetNodes
 pub mod Solving
+pub mod Agreement
 pub mod Spreading
 pub mod SumRows
 pub mod Telescoping
