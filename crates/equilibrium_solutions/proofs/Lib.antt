@@ -17,6 +17,7 @@ pub mod RowTerms
 pub mod SetNodes
 pub mod Solving
 pub mod Agreement
+pub mod Assembly
 pub mod BlockRows
 pub mod Spreading
 pub mod SumRows
