@@ -64,7 +64,8 @@ taken_up left total right none =
 module _ (notion : Notion) (g : GameView) (p : PairsView) (lp : LpView) (rules : IsPairs p) (program : IsProgramOf g p notion lp)
     (own : (side : Side) → OwnSequences side g) (x : ℕ → ℤ)
     (each : (side : Side) (trigger : Trigger) → IsProgramTrigger notion g p side trigger → HasValues g p trigger (own trigger.side) x)
-    (known : (side : Side) (trigger : Trigger) → IsProgramTrigger notion g p side trigger → (set : ℕ) → set < length (sets_of trigger.side g)
+    (known : (side : Side) (trigger : Trigger) → IsProgramTrigger notion g p side trigger → (set : ℕ)
+    → set < length (sets_of trigger.side g)
     → HasSet (side_of trigger.side p.seqs) trigger.set set ↔ (is_of trigger.side g trigger.set set ≡ true))
     (says : (side : Side) (trigger : Trigger) → IsProgramTrigger notion g p side trigger → (first values : ℕ)
     → (block : HasRowsOf g p trigger first values (length p.pairs + program.values) program.more.cols program.more)
@@ -102,8 +103,9 @@ module _ (notion : Notion) (g : GameView) (p : PairsView) (lp : LpView) (rules :
   parts =
       let found = value_columns g p own x notion lp program each in
       let lift = lift_of program.values found.0 in
-      let slacks = chosen (pos 0) (λ row left. Leaves (length p.pairs) program.values program.more.cols program.more x found.0 lift.0 row left)
-      program.incentives (each_leaves found.0 found.1 lift.0) in
+      let Good : ℕ → ℤ → Type 0 =
+      λ row left. Leaves (length p.pairs) program.values program.more.cols program.more x found.0 lift.0 row left in
+      let slacks = chosen (pos 0) Good program.incentives (each_leaves found.0 found.1 lift.0) in
       record {
         values = found.0;
         lift = lift.0;

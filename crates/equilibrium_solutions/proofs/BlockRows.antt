@@ -1,5 +1,5 @@
--- The numbers of a solution, column by column, and what a row of a trigger's block leaves for its slack: where values are worth no more than
--- following, it is 0 or more.
+-- The numbers of a solution, column by column, and what a row of a trigger's block leaves for its slack: where values are worth no more
+-- than following, it is 0 or more.
 use Rattle.std.proofs.Common.{◌≡◌, ◌↔◌, inl, inr, ℕ, ◌+◌, ◌<◌, ◌≤◌, Option, Some, None, length, slice_get, true}
 use Rattle.std.proofs.Common.{ℤ, pos, ◌+ℤ◌, ◌-ℤ◌, ◌*ℤ◌, ◌≤ℤ◌, ap, subst, ◌∙◌, arith}
 use Rattle.std.proofs.lemmas.Bool.{cases_lt}
@@ -169,7 +169,8 @@ module _ (notion : Notion) (g : GameView) (p : PairsView) (rules : IsPairs p) (o
               let say = says y in
               let product = less_slack _ _ _ _ _ _ (say.row_of_action set action place info entry.1 found.here.1 less)
               (same_value slacks y here set found.low inside)
-              (after_same g p rules x y here.at_pairs trigger (own trigger.side) say.value columns.value (same_value slacks y here) set action) in
+              (after_same g p rules x y here.at_pairs trigger (own trigger.side) say.value columns.value (same_value slacks y here) set
+              action) in
               let whole = product ∙ ap (λ (t : ℤ). left -ℤ t) (slack_at slacks y here (place.row + action)) in
               let Says : ℕ → Type 0 =
               λ n. sum_to cols (λ k. coefficient more (first + n) k *ℤ y k) ≡ left -ℤ slacks (first + n) in

@@ -32,7 +32,8 @@ use Rattle.equilibrium_solutions.specs.Values.{HasValues, IsProgramTrigger}
 -- ---- the values of one trigger
 
 -- values of a trigger's sets, worth no more than following, that stand behind so many numbers of a family
-pub record HasColumns (g : GameView) (p : PairsView) (own : (side : Side) → OwnSequences side g) (x : ℕ → ℤ) (trigger : Trigger) (first : ℕ) (f : ℕ → ℤ) : Type 0 where
+pub record HasColumns (g : GameView) (p : PairsView) (own : (side : Side) → OwnSequences side g) (x : ℕ → ℤ)
+    (trigger : Trigger) (first : ℕ) (f : ℕ → ℤ) : Type 0 where
   pub value : ℕ → ℤ
   pub are_values : AreValues (departure g p trigger (own trigger.side) x) value
   pub worth : at_start (departure g p trigger (own trigger.side) x) value ≤ℤ followed g p trigger (own trigger.side) x
@@ -93,8 +94,8 @@ trigger_side Efce p side set k t is = (is.0, is.1)
 trigger_side Efcce p side set k t is = (is.0, is.1)
 trigger_side Nfcce p side set k t is = absurd is
 
-program_trigger : (notion : Notion) (g : GameView) (p : PairsView) (side : Side) (set k times : ℕ) (t : Trigger) → TriggersAt notion g side set times
-    → k < times → IsTriggerAt notion p side set k t → IsProgramTrigger notion g p side t
+program_trigger : (notion : Notion) (g : GameView) (p : PairsView) (side : Side) (set k times : ℕ) (t : Trigger)
+    → TriggersAt notion g side set times → k < times → IsTriggerAt notion p side set k t → IsProgramTrigger notion g p side t
 program_trigger Efce g p side set k times t triggers low is = (set, k, times, triggers, low, is)
 program_trigger Efcce g p side set k times t triggers low is = (set, k, times, triggers, low, is)
 program_trigger Nfcce g p side set k times t triggers low is = absurd is
@@ -117,7 +118,8 @@ pub record Base : Type 0 where
   pub cols : ℕ
 
 -- the block of the k-th trigger at a set, and its values behind so many numbers of a family
-pub record IsBlock (notion : Notion) (g : GameView) (p : PairsView) (own : (side : Side) → OwnSequences side g) (x : ℕ → ℤ) (side : Side) (base : Base) (all_values : ℕ) (lp : LpView) (set k at : ℕ) (f : ℕ → ℤ) : Type 0 where
+pub record IsBlock (notion : Notion) (g : GameView) (p : PairsView) (own : (side : Side) → OwnSequences side g) (x : ℕ → ℤ)
+    (side : Side) (base : Base) (all_values : ℕ) (lp : LpView) (set k at : ℕ) (f : ℕ → ℤ) : Type 0 where
   pub trigger : Trigger
   pub which : IsProgramTrigger notion g p side trigger
   pub first : ℕ
@@ -131,7 +133,8 @@ pub record IsBlock (notion : Notion) (g : GameView) (p : PairsView) (own : (side
   pub columns : HasColumns g p own x trigger at f
 
 -- a row of the program is one of a trigger's block, whose values stand in a family
-pub record HasRow (notion : Notion) (g : GameView) (p : PairsView) (own : (side : Side) → OwnSequences side g) (x : ℕ → ℤ) (side : Side) (floor cols all_values : ℕ) (lp : LpView) (offset row : ℕ) (f : ℕ → ℤ) : Type 0 where
+pub record HasRow (notion : Notion) (g : GameView) (p : PairsView) (own : (side : Side) → OwnSequences side g) (x : ℕ → ℤ)
+    (side : Side) (floor cols all_values : ℕ) (lp : LpView) (offset row : ℕ) (f : ℕ → ℤ) : Type 0 where
   pub trigger : Trigger
   pub which : IsProgramTrigger notion g p side trigger
   pub first : ℕ
@@ -143,8 +146,8 @@ pub record HasRow (notion : Notion) (g : GameView) (p : PairsView) (own : (side 
   pub low : r ≤ block.row_count
   pub stands : row ≡ first + r
 
-module _ (notion : Notion) (g : GameView) (p : PairsView) (own : (side : Side) → OwnSequences side g) (x : ℕ → ℤ) (side : Side) (lp : LpView)
-    (each : (trigger : Trigger) → IsProgramTrigger notion g p side trigger → HasValues g p trigger (own trigger.side) x) where
+module _ (notion : Notion) (g : GameView) (p : PairsView) (own : (side : Side) → OwnSequences side g) (x : ℕ → ℤ) (side : Side)
+    (lp : LpView) (each : (trigger : Trigger) → IsProgramTrigger notion g p side trigger → HasValues g p trigger (own trigger.side) x) where
   module _ (base : Base) (all_rows all_values : ℕ)
       (rows : HasRowsAtSets notion g p side (length (sets_of side g)) base.rows base.values base.floor base.cols lp)
       (row_total : HasTotalAt row_each 1 notion g p side all_rows) (value_total : HasTotalAt value_each 0 notion g p side all_values) where
@@ -263,7 +266,8 @@ module _ (notion : Notion) (g : GameView) (p : PairsView) (own : (side : Side) �
         )
 
     -- the row of a block that a row of the player's is
-    row_at_sets : (row : ℕ) → row < all_rows → HasRow notion g p own x side base.floor base.cols all_values lp base.values (base.rows + row) side_columns.0
+    row_at_sets : (row : ℕ) → row < all_rows
+        → HasRow notion g p own x side base.floor base.cols all_values lp base.values (base.rows + row) side_columns.0
     row_at_sets row low =
         let term = HasCountAt row_each 1 notion g p side in
         let found = in_sum term (length (sets_of side g)) all_rows row row_total low in
