@@ -1,4 +1,7 @@
+pub mod Agreement
+pub mod Assembly
 pub mod BaseRows
+pub mod BlockRows
 pub mod Departing
 pub mod Gettings
 pub mod Improving
@@ -16,9 +19,6 @@ pub mod RowSums
 pub mod RowTerms
 pub mod SetNodes
 pub mod Solving
-pub mod Agreement
-pub mod Assembly
-pub mod BlockRows
 pub mod Spreading
 pub mod SumRows
 pub mod Telescoping
