@@ -26,3 +26,4 @@ pub mod TestedSums
 pub mod Triggers
 pub mod Under
 pub mod ValueColumns
+pub mod Leaving

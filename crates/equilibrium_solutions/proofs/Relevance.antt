@@ -59,7 +59,7 @@ own_on_path g side n (move ∷ before) own =
     let above = made_above g side n (move ∷ before) own move before refl in (above.0, above.1, above.2)
 
 -- what is on the path to a node is on the path to each node below
-path_down : (g : GameView) → IsGame g → (side : Side) (m n : ℕ) (last : Option (SetId × ℕ)) → IsAbove g m n → IsOnPath g side m last
+pub path_down : (g : GameView) → IsGame g → (side : Side) (m n : ℕ) (last : Option (SetId × ℕ)) → IsAbove g m n → IsOnPath g side m last
     → IsOnPath g side n last
 path_down g rules side m n None up h = tt
 path_down g rules side m n (Some move) up h = (h.0, above_joined g rules h.0 m n h.1 up, h.2)
@@ -106,10 +106,10 @@ module _ (g : GameView) (rules : IsGame g) (p : PairsView) (pairs : IsPairs p) (
   path_column One own beside n low left up over = has_index own beside low left (related n own beside _ _ refl refl up over)
   path_column Two own beside n low left up over = has_index beside own left low (related n beside own _ _ refl refl over up)
 
-  node_low : (side : Side) (n : ℕ) → n < length g.nodes → slice_index (side_of side p.seqs).nodes n < count_of (side_of side p.seqs)
+  pub node_low : (side : Side) (n : ℕ) → n < length g.nodes → slice_index (side_of side p.seqs).nodes n < count_of (side_of side p.seqs)
   node_low side n low = node_in (side_of side p.seqs) (pairs.sides side) n (omega (arith, (of.sides side).per_node))
 
-  node_on_path : (side : Side) (own : OwnSequences side g) (n : ℕ) → n < length g.nodes
+  pub node_on_path : (side : Side) (own : OwnSequences side g) (n : ℕ) → n < length g.nodes
       → IsOnPath g side n (last_of (side_of side p.seqs) (slice_index (side_of side p.seqs).nodes n))
   node_on_path side own n low =
       rw (node_last g rules p pairs of side own n low) (own_on_path g side n (own.node n) (own.each_node.each n low))
