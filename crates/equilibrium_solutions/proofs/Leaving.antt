@@ -63,7 +63,8 @@ module _ (g : GameView) (rules : IsGame g) (p : PairsView) (pairs : IsPairs p) (
       elim ((under_by_moves g rules side own top.0 parts.0.0.0 back.0).0 parts.3) [
         | inl same ↦ (above.0, above.1, above.2 ∙ ap (λ (s : ℕ). Some s) same)
         | inr moved ↦
-            let earlier = move_above g rules side top.0 above.0 (own.set parts.0.0.0) (set_is_own side g own above.0 parts.0.0.0 above.2) moved in
+            let earlier = move_above g rules side top.0 above.0 (own.set parts.0.0.0)
+            (set_is_own side g own above.0 parts.0.0.0 above.2) moved in
             (earlier.0, above_joined g rules earlier.0 above.0 n earlier.1 above.1, earlier.2)
       ]
 

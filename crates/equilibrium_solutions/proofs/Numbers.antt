@@ -34,10 +34,15 @@ own_numbered side g v rules of n [] seq own h = h
 own_numbered side g v rules of n (move ∷ moves) seq own h =
     let above = made_above g side n (move ∷ moves) own move moves refl in
     let place = h.0 in
-    let before = of.own_of_tree above.0 move.0.0 place (latest moves) above.2 h.1 (moves, above.3, refl) in
-    (ends_with_move v rules move seq h, place.own, (place, h.1, refl), own_numbered side g v rules of above.0 moves place.own above.3 before)
+    let before = of.own_of_tree above.0 move.0.0 place (latest moves) above.2 h.1 (moves, above.3, refl) in (
+      ends_with_move v rules move seq h,
+      place.own,
+      (place, h.1, refl),
+      own_numbered side g v rules of above.0 moves place.own above.3 before,
+    )
 
-module _ (g : GameView) (rules : IsGame g) (p : PairsView) (pairs : IsPairs p) (of : IsPairsOf g p) (side : Side) (own : OwnSequences side g) where
+module _ (g : GameView) (rules : IsGame g) (p : PairsView) (pairs : IsPairs p) (of : IsPairsOf g p) (side : Side)
+    (own : OwnSequences side g) where
   pub node_numbered : (n : ℕ) → n < length g.nodes
       → IsNumberOf (side_of side p.seqs) (own.node n) (slice_index (side_of side p.seqs).nodes n)
   unfolding AreAtNodes
@@ -127,4 +132,5 @@ module _ (g : GameView) (rules : IsGame g) (p : PairsView) (pairs : IsPairs p) (
   pub move_plays : (plan : List (Option ℕ)) (set action seq : ℕ) → Ends (side_of side p.seqs).places (record { 0 = set }, action) seq
       → Plays (side_of side p.seqs) plan seq ↔ ((names action (slice_get plan set) && names_all plan (own.set set)) ≡ true)
   move_plays plan set action seq e =
-      plays_by_moves (side_of side p.seqs) (pairs.sides side) plan ((record { 0 = set }, action) ∷ own.set set) seq (move_numbered set action seq e)
+      plays_by_moves (side_of side p.seqs) (pairs.sides side) plan ((record { 0 = set }, action) ∷ own.set set) seq
+      (move_numbered set action seq e)

@@ -116,14 +116,16 @@ module _ (g : GameView) (rules : IsGame g) (p : PairsView) (pairs : IsPairs p) (
 
   -- a node's two sequences have a column
   pub own_relevant : (side : Side) → OwnSequences side g → OwnSequences (other side) g → (n : ℕ) → n < length g.nodes
-      → (k : ℕ) × (pair_column p side (slice_index (side_of side p.seqs).nodes n) (slice_index (side_of (other side) p.seqs).nodes n) ≡ Some k)
+      → (k : ℕ)
+      × (pair_column p side (slice_index (side_of side p.seqs).nodes n) (slice_index (side_of (other side) p.seqs).nodes n) ≡ Some k)
       × (k < length p.pairs)
   own_relevant side own beside n low =
       path_column side _ _ n (node_low side n low) (node_low (other side) n low) (node_on_path side own n low)
       (node_on_path (other side) beside n low)
 
   -- a column is that of its pair, player 1's sequence first
-  pub column_pair : (side : Side) (own beside k : ℕ) → own < count_of (side_of side p.seqs) → beside < count_of (side_of (other side) p.seqs)
+  pub column_pair : (side : Side) (own beside k : ℕ) → own < count_of (side_of side p.seqs)
+      → beside < count_of (side_of (other side) p.seqs)
       → pair_column p side own beside ≡ Some k → slice_get p.pairs k ≡ Some (pair_of side own beside)
   column_pair One own beside k low left e = pair_at p pairs own beside k left e
   column_pair Two own beside k low left e = pair_at p pairs beside own k low e
