@@ -7,6 +7,7 @@ pub mod Gettings
 pub mod Improving
 pub mod LeafColumns
 pub mod LeafGains
+pub mod Leaving
 pub mod ListGains
 pub mod MoveNumbers
 pub mod Numbers
@@ -26,4 +27,3 @@ pub mod TestedSums
 pub mod Triggers
 pub mod Under
 pub mod ValueColumns
-pub mod Leaving
