@@ -15,6 +15,7 @@ pub mod PaidLeaves
 pub mod PlanMoves
 pub mod ReducedPlans
 pub mod Relevance
+pub mod ProgramBlocks
 pub mod RowMeaning
 pub mod RowPlaces
 pub mod RowSums

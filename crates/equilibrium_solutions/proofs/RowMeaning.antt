@@ -24,8 +24,10 @@ use Rattle.incentive_rows.specs.Standing.{HasRowsOf}
 use Rattle.incentive_rows.specs.Term.{AreTerms, Both}
 use Rattle.incentive_rows.specs.Trigger.{Follows, HasSet}
 use Rattle.equilibrium_solutions.specs.Decision.{after, at_start, ends_with, is_given}
-use Rattle.equilibrium_solutions.specs.Departure.{OwnSequences, before_play, departure, followed, has_followed, is_of, paid_followed, paid_left}
-use Rattle.equilibrium_solutions.proofs.RowPlaces.{LastIn, at_action, at_none, last_in, left_last, left_row, one_set, own_last, own_row, row_inside, row_low}
+use Rattle.equilibrium_solutions.specs.Departure.{OwnSequences, before_play, departure, followed, has_followed, is_of, paid_followed}
+use Rattle.equilibrium_solutions.specs.Departure.{paid_left}
+use Rattle.equilibrium_solutions.proofs.RowPlaces.{LastIn, at_action, at_none, last_in, left_last, left_row, one_set, own_last, own_row}
+use Rattle.equilibrium_solutions.proofs.RowPlaces.{row_inside, row_low}
 use Rattle.equilibrium_solutions.proofs.RowSums.{Weighs, weighs_both, weighs_terms}
 pub use Rattle.equilibrium_solutions.proofs.RowTerms.{over_floor}
 use Rattle.equilibrium_solutions.proofs.RowTerms.{SetTests, leaf_weighs, set_weighs, slack_weighs}
@@ -95,7 +97,8 @@ module _ (g : GameView) (p : PairsView) (trigger : Trigger) (first values floor 
       subst (LastIn trigger.side g) (read.nodes n low)
       (last_in trigger.side g p rules whose (slice_index (side_of trigger.side p.seqs).nodes n))
 
-  module _ (r : ℕ) (here : ℕ → Bool) (above left : List (SetId × ℕ) → Bool) (follows : ℕ → Bool) (tests : HasTests r here above left follows) where
+  module _ (r : ℕ) (here : ℕ → Bool) (above left : List (SetId × ℕ) → Bool) (follows : ℕ → Bool)
+      (tests : HasTests r here above left follows) where
     abbrev gained : ℕ → ℤ
     gained set = cond (here set) (block_value p values floor rows.sets x set) (pos 0)
 
@@ -165,7 +168,8 @@ module _ (g : GameView) (p : PairsView) (trigger : Trigger) (first values floor 
   abbrev value : ℕ → ℤ
   value = block_value p values floor rows.sets x
 
-  has_set : (set : ℕ) → set < length (sets_of trigger.side g) → Decides (is_inside set) (HasSet (side_of trigger.side p.seqs) trigger.set set)
+  has_set : (set : ℕ) → set < length (sets_of trigger.side g)
+      → Decides (is_inside set) (HasSet (side_of trigger.side p.seqs) trigger.set set)
   has_set set low = ((read.has set low).1, (read.has set low).0)
 
   -- ---- the row of an action
@@ -181,8 +185,9 @@ module _ (g : GameView) (p : PairsView) (trigger : Trigger) (first values floor 
     latest_there =
         at_action g p trigger.side trigger.set rows.sets rows.value_count rows.row_count rows.placed set action place info at known low
 
-    same_set : (j : ℕ) (other : SetPlace) (i : SetInfo) → slice_get rows.sets j ≡ Some (Some other) → slice_get (sets_of trigger.side g) j ≡ Some i
-        → j ≡ set → (other.row ≤ place.row + action) × (place.row + action < other.row + i.actions)
+    same_set : (j : ℕ) (other : SetPlace) (i : SetInfo) → slice_get rows.sets j ≡ Some (Some other)
+        → slice_get (sets_of trigger.side g) j ≡ Some i → j ≡ set
+        → (other.row ≤ place.row + action) × (place.row + action < other.row + i.actions)
     same_set j other i there here same =
         let Place : ℕ → Type 0 = λ n. slice_get rows.sets n ≡ Some (Some other) in
         let Info : ℕ → Type 0 = λ n. slice_get (sets_of trigger.side g) n ≡ Some i in
@@ -200,12 +205,14 @@ module _ (g : GameView) (p : PairsView) (trigger : Trigger) (first values floor 
       of_action = λ j other i there here. (
         λ t. same_set j other i there here ((Decides-eqb j set).0 t),
         λ h. (Decides-eqb j set).1
-            (one_set g p trigger.side trigger.set rows.sets rows.value_count rows.row_count rows.placed j set (place.row + action) other place i info
-            there at here known h.0 h.1 (omega arith) (omega (arith, low))),
+            (one_set g p trigger.side trigger.set rows.sets rows.value_count rows.row_count rows.placed j set (place.row + action)
+            other place i info there at here known h.0 h.1 (omega arith) (omega (arith, low))),
       );
-      of_own = λ moves last. own_row (ends_with set action moves) (row_at moves) (place.row + action) rows.row_count inside_block (latest_there moves last);
+      of_own = λ moves last.
+          own_row (ends_with set action moves) (row_at moves) (place.row + action) rows.row_count inside_block (latest_there moves last);
       of_left = λ moves last.
-          left_row trigger.set (ends_with set action moves) (row_at moves) (place.row + action) rows.row_count inside_block (latest_there moves last);
+          left_row trigger.set (ends_with set action moves) (row_at moves) (place.row + action) rows.row_count inside_block
+          (latest_there moves last);
       of_follows = λ n within. (λ t. absurd (cc), λ h. absurd (omega (arith, h.1, inside_block)));
     }
 
@@ -222,14 +229,16 @@ module _ (g : GameView) (p : PairsView) (trigger : Trigger) (first values floor 
         let spent = λ (j : ℕ). cond (is_inside j && ends_with set action (own.set j)) (value j) (pos 0) in
         let left = λ (n : ℕ). cond (ends_with set action (own.node n)) (paid_left g p trigger x n) (pos 0) in
         let product : sum_to cols (λ k. coefficient more (first + (place.row + action)) k *ℤ x k)
-        ≡ sum_to sets gains -ℤ sum_to sets spent +ℤ (sum_to nodes (λ n. pos 0) -ℤ sum_to nodes left) -ℤ x (floor + 1 + first + (place.row + action)) =
+        ≡ sum_to sets gains -ℤ sum_to sets spent +ℤ (sum_to nodes (λ n. pos 0) -ℤ sum_to nodes left)
+        -ℤ x (floor + 1 + first + (place.row + action)) =
         row_product (place.row + action) (λ j. nat_eq j set) (ends_with set action) (ends_with set action) (λ n. false) action_tests in
         let leads : after (departure g p trigger own x) value set action ≡ sum_to sets spent +ℤ sum_to nodes left = refl in
         omega (arith, linear, product, one, own_gain, nothing, leads)
 
   -- ---- the last row
 
-  latest_given : (moves : List (SetId × ℕ)) → LastIn trigger.side g (latest moves) → Decides (is_given is_inside moves) (row_at moves ≡ None)
+  latest_given : (moves : List (SetId × ℕ)) → LastIn trigger.side g (latest moves)
+      → Decides (is_given is_inside moves) (row_at moves ≡ None)
   latest_given = at_none g p trigger.side trigger.set rows.sets rows.value_count rows.row_count rows.placed is_inside has_set
 
   latest_low : (moves : List (SetId × ℕ)) → LastIn trigger.side g (latest moves) → (q : ℕ) → row_at moves ≡ Some q → q < rows.row_count
@@ -240,7 +249,8 @@ module _ (g : GameView) (p : PairsView) (trigger : Trigger) (first values floor 
   following_tests = record {
     of_block = omega arith;
     of_action = λ j other i there here. (λ t. absurd (cc), λ h. absurd (omega (arith, (rows.placed.within j other i there here).1, h.1)));
-    of_own = λ moves last. own_last (is_given is_inside moves) (row_at moves) rows.row_count (latest_low moves last) (latest_given moves last);
+    of_own = λ moves last.
+        own_last (is_given is_inside moves) (row_at moves) rows.row_count (latest_low moves last) (latest_given moves last);
     of_left = λ moves last.
         left_last trigger.set (is_given is_inside moves) (row_at moves) rows.row_count (latest_low moves last) (latest_given moves last);
     of_follows = λ n within. (λ t. ((read.follows n within).1 t, refl), λ h. (read.follows n within).0 h.0);
@@ -255,7 +265,8 @@ module _ (g : GameView) (p : PairsView) (trigger : Trigger) (first values floor 
       let spent = λ (j : ℕ). cond (is_inside j && is_given is_inside (own.set j)) (value j) (pos 0) in
       let left = λ (n : ℕ). cond (before_play trigger.set && is_given is_inside (own.node n)) (paid_left g p trigger x n) (pos 0) in
       let product : sum_to cols (λ k. coefficient more (first + rows.row_count) k *ℤ x k)
-      ≡ sum_to sets (λ j. pos 0) -ℤ sum_to sets spent +ℤ (followed g p trigger own x -ℤ sum_to nodes left) -ℤ x (floor + 1 + first + rows.row_count) =
+      ≡ sum_to sets (λ j. pos 0) -ℤ sum_to sets spent +ℤ (followed g p trigger own x -ℤ sum_to nodes left)
+      -ℤ x (floor + 1 + first + rows.row_count) =
       row_product rows.row_count (λ j. false) (is_given is_inside) (λ moves. before_play trigger.set && is_given is_inside moves)
       (λ n. has_followed trigger.set trigger.action (own.node n)) following_tests in
       let leads : at_start (departure g p trigger own x) value ≡ sum_to sets spent +ℤ sum_to nodes left = refl in

@@ -29,7 +29,8 @@ abbrev pub LastIn : Side → GameView → Option (SetId × ℕ) → Type 0
 LastIn side g None = Unit {0}
 LastIn side g (Some move) = (info : SetInfo) × (slice_get (sets_of side g) move.0.0 ≡ Some info) × (move.1 < info.actions)
 
-pub last_in : (side : Side) (g : GameView) (p : PairsView) → IsPairs p → IsPairsOf g p → (seq : ℕ) → LastIn side g (last_of (side_of side p.seqs) seq)
+pub last_in : (side : Side) (g : GameView) (p : PairsView) → IsPairs p → IsPairsOf g p → (seq : ℕ)
+    → LastIn side g (last_of (side_of side p.seqs) seq)
 last_in side g p rules whose zero = tt
 last_in side g p rules whose (suc k) = by (slice_get (side_of side p.seqs).lasts k) refl
   where
@@ -101,7 +102,8 @@ module _ (g : GameView) (p : PairsView) (side : Side) (top : Option SetId) (sets
         let places : found ≡ place = cc (here, at) in
         (sets_same, omega (arith, rows_same, ap (λ (q : SetPlace). q.row) places))
 
-    row_there : (move : SetId × ℕ) → (move.0.0 ≡ set) × (move.1 ≡ action) → row_from (slice_get sets move.0.0) move.1 ≡ Some (place.row + action)
+    row_there : (move : SetId × ℕ) → (move.0.0 ≡ set) × (move.1 ≡ action)
+        → row_from (slice_get sets move.0.0) move.1 ≡ Some (place.row + action)
     row_there move same = rw (same.0, same.1, at) refl
 
     -- moves end with an action exactly where the row at the latest is its own
@@ -113,7 +115,8 @@ module _ (g : GameView) (p : PairsView) (side : Side) (top : Option SetId) (sets
         (Decides-and (nat_eq move.0.0 set) (nat_eq move.1 action) (Decides-eqb move.0.0 set) (Decides-eqb move.1 action))
 
   -- there is no row at the latest move exactly where that is given
-  module _ (inside : ℕ → Bool) (has : (set : ℕ) → set < length (sets_of side g) → Decides (inside set) (HasSet (side_of side p.seqs) top set)) where
+  module _ (inside : ℕ → Bool)
+      (has : (set : ℕ) → set < length (sets_of side g) → Decides (inside set) (HasSet (side_of side p.seqs) top set)) where
     pub at_none : (moves : List (SetId × ℕ)) → LastIn side g (latest moves)
         → Decides (is_given inside moves) (row_at_move sets (latest moves) ≡ None)
     at_none [] last = (λ e. refl, λ e. refl)
@@ -134,7 +137,8 @@ module _ (g : GameView) (p : PairsView) (side : Side) (top : Option SetId) (sets
 
 -- ---- a row by the row at the latest move, in the rows of actions and in the last row
 
-pub own_row : (test : Bool) (row : Option ℕ) (r follow : ℕ) → r < follow → Decides test (row ≡ Some r) → Decides test (r ≡ unwrap_or row follow)
+pub own_row : (test : Bool) (row : Option ℕ) (r follow : ℕ) → r < follow → Decides test (row ≡ Some r)
+    → Decides test (r ≡ unwrap_or row follow)
 own_row test None r follow low d = (λ t. absurd (cc (d.0 t)), λ e. absurd (omega arith))
 own_row test (Some q) r follow low d = (λ t. let same : q ≡ r = cc (d.0 t) in sym same, λ e. d.1 (ap (λ (n : ℕ). Some n) (sym e)))
 

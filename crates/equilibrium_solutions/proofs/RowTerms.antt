@@ -94,7 +94,8 @@ stands_under P Q test col n d low = record {
   inside = low;
 }
 
-pair_in : (p : PairsView) → IsPairs p → (side : Side) (own beside n k : ℕ) → length p.pairs ≤ n → pair_column p side own beside ≡ Some k → k < n
+pair_in : (p : PairsView) → IsPairs p → (side : Side) (own beside n k : ℕ) → length p.pairs ≤ n
+    → pair_column p side own beside ≡ Some k → k < n
 pair_in p rules One own beside n k low e = omega (arith, index_in p rules own beside k e)
 pair_in p rules Two own beside n k low e = omega (arith, index_in p rules beside own k e)
 
@@ -116,7 +117,8 @@ module _ (columns : Columns) (r n : ℕ) (x : ℕ → ℤ) where
       weighs_is (λ k. Both (A k) (B k)) n x _ _ (taken test (x col) (x columns.floor)) (weighs_both A B n x _ _ one two)
 
   above_weighs : (row : ℕ) (place : SetPlace) (test : Bool) → Decides test (r ≡ row) → columns.values + place.value < n → columns.floor < n
-      → Weighs (λ k. IsAboveTerm columns row place r k) n x (pos 0 -ℤ cond test (x (columns.values + place.value) -ℤ x columns.floor) (pos 0))
+      → Weighs (λ k. IsAboveTerm columns row place r k) n x
+      (pos 0 -ℤ cond test (x (columns.values + place.value) -ℤ x columns.floor) (pos 0))
   above_weighs row place test d low floor_low =
       let P = r ≡ row in
       let col = columns.values + place.value in
@@ -168,7 +170,8 @@ module _ (g : GameView) (p : PairsView) (trigger : Trigger) (sets : List (Option
         let same : cond here over (pos 0) +ℤ (pos 0 -ℤ cond above over (pos 0)) ≡ cond here over (pos 0) -ℤ cond above over (pos 0) =
         omega (arith, linear) in
         let fixed : (k : ℕ) (v : ℤ) → C k v → Both (A k) (B k) v = λ k v h.
-        (let Own : Option (SetId × ℕ) → Type 0 = λ l. Both (A k) (λ w. IsAboveTerm columns (unwrap_or (row_at_move sets l) follow) place r k w) v in
+        (let Own : Option (SetId × ℕ) → Type 0 =
+        λ l. Both (A k) (λ w. IsAboveTerm columns (unwrap_or (row_at_move sets l) follow) place r k w) v in
         subst Own (owns h.0 h.1) h.2) in
         weighs_as C (λ k. Both (A k) (B k)) n x _ fixed (weighs_is (λ k. Both (A k) (B k)) n x _ _ same both)
 
@@ -191,15 +194,19 @@ module _ (g : GameView) (p : PairsView) (trigger : Trigger) (sets : List (Option
 
   -- ---- leaves
 
+  -- the player's sequence at a node
+  abbrev own_seq : ℕ → ℕ
+  own_seq j = slice_index (side_of trigger.side p.seqs).nodes j
+
   module _ (rules : IsPairs p) (inside : length p.pairs ≤ n) (j : ℕ) (left follows : Bool)
-      (of_left : Decides left (row_left trigger.set follow (row_at_move sets (last_of (side_of trigger.side p.seqs) (slice_index (side_of trigger.side p.seqs).nodes j))) ≡ Some r))
-      (of_follows : Decides follows (Follows (side_of trigger.side p.seqs) trigger (slice_index (side_of trigger.side p.seqs).nodes j) × (r ≡ follow))) where
+      (of_left : Decides left (row_left trigger.set follow (row_at_move sets (last_of (side_of trigger.side p.seqs) (own_seq j))) ≡ Some r))
+      (of_follows : Decides follows (Follows (side_of trigger.side p.seqs) trigger (own_seq j) × (r ≡ follow))) where
     node_weighs : (node : Node) → Weighs (λ k. AtNode p trigger sets follow j node r k) n x
-        (cond follows (leaf_amount trigger.side (Some node) *ℤ beside_node p trigger.side x (slice_index (side_of trigger.side p.seqs).nodes j) j) (pos 0)
+        (cond follows (leaf_amount trigger.side (Some node) *ℤ beside_node p trigger.side x (own_seq j) j) (pos 0)
         -ℤ cond left (leaf_amount trigger.side (Some node) *ℤ beside_node p trigger.side x trigger.seq j) (pos 0))
     node_weighs (Leaf pay) =
         let s = side_of trigger.side p.seqs in
-        let seq = slice_index s.nodes j in
+        let seq = own_seq j in
         let beside = slice_index (side_of (other trigger.side) p.seqs).nodes j in
         let amount = amount_of trigger.side pay in
         let one = pair_column p trigger.side trigger.seq beside in
@@ -209,16 +216,20 @@ module _ (g : GameView) (p : PairsView) (trigger : Trigger) (sets : List (Option
         let Q = r ≡ follow in
         let A : ℕ → ℤ → Type 0 = λ k. IsTerm (P × (one ≡ Some k)) (pos 0 -ℤ amount) in
         let B : ℕ → ℤ → Type 0 = λ k. IsTerm (F × Q × (two ≡ Some k)) amount in
-        let low : (own k : ℕ) → pair_column p trigger.side own beside ≡ Some k → k < n = λ own k e. pair_in p rules trigger.side own beside n k inside e in
-        let first = weighs_term (λ k. P × (one ≡ Some k)) (pos 0 -ℤ amount) left one n x (stands_at_pair P left one n of_left (low trigger.seq)) in
-        let second = weighs_term (λ k. F × Q × (two ≡ Some k)) amount follows two n x (stands_under F Q follows two n of_follows (low seq)) in
-        weighs_is (λ k. Both (A k) (B k)) n x _ _ (paid_both left follows amount (in_column x one) (in_column x two)) (weighs_both A B n x _ _ first second)
+        let low : (own k : ℕ) → pair_column p trigger.side own beside ≡ Some k → k < n =
+        λ own k e. pair_in p rules trigger.side own beside n k inside e in
+        let first = weighs_term (λ k. P × (one ≡ Some k)) (pos 0 -ℤ amount) left one n x
+        (stands_at_pair P left one n of_left (low trigger.seq)) in
+        let second = weighs_term (λ k. F × Q × (two ≡ Some k)) amount follows two n x
+        (stands_under F Q follows two n of_follows (low seq)) in
+        weighs_is (λ k. Both (A k) (B k)) n x _ _ (paid_both left follows amount (in_column x one) (in_column x two))
+        (weighs_both A B n x _ _ first second)
     node_weighs (Chance kids) =
         weighs_is (λ k v. v ≡ pos 0) n x _ _ (none_paid left follows (beside_node p trigger.side x trigger.seq j)
-        (beside_node p trigger.side x (slice_index (side_of trigger.side p.seqs).nodes j) j)) (weighs_nothing n x)
+        (beside_node p trigger.side x (own_seq j) j)) (weighs_nothing n x)
     node_weighs (Choice side set kids) =
         weighs_is (λ k v. v ≡ pos 0) n x _ _ (none_paid left follows (beside_node p trigger.side x trigger.seq j)
-        (beside_node p trigger.side x (slice_index (side_of trigger.side p.seqs).nodes j) j)) (weighs_nothing n x)
+        (beside_node p trigger.side x (own_seq j) j)) (weighs_nothing n x)
 
     pub leaf_weighs : (node : Node) → slice_get g.nodes j ≡ Some node → Weighs (λ k. IsLeafTerm g p trigger sets follow r k j) n x
         (cond follows (paid_followed g p trigger x j) (pos 0) -ℤ cond left (paid_left g p trigger x j) (pos 0))
