@@ -13,9 +13,9 @@ pub mod MoveNumbers
 pub mod Numbers
 pub mod PaidLeaves
 pub mod PlanMoves
+pub mod ProgramBlocks
 pub mod ReducedPlans
 pub mod Relevance
-pub mod ProgramBlocks
 pub mod RowMeaning
 pub mod RowPlaces
 pub mod RowSums
