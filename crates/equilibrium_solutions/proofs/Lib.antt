@@ -29,3 +29,4 @@ pub mod TestedSums
 pub mod Triggers
 pub mod Under
 pub mod ValueColumns
+pub mod SolutionValues

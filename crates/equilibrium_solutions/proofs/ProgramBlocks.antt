@@ -23,7 +23,8 @@ use Rattle.incentive_rows.proofs.Sums.{sum_room}
 use Rattle.equilibrium_solutions.specs.Values.{IsProgramTrigger, IsSomeTriggerAt}
 
 -- a trigger's block in a program, its rows before one number and its values not behind another
-pub record HasBlock (g : GameView) (p : PairsView) (trigger : Trigger) (floor cols : ℕ) (more : LpView) (rows_end values_end : ℕ) : Type 0 where
+pub record HasBlock (g : GameView) (p : PairsView) (trigger : Trigger) (floor cols : ℕ) (more : LpView) (rows_end values_end : ℕ)
+    : Type 0 where
   pub first : ℕ
   pub values : ℕ
   pub rows : HasRowsOf g p trigger first values floor cols more
@@ -112,7 +113,8 @@ at_sets_block : (notion : Notion) (g : GameView) (p : PairsView) → IsPairsOf g
     → IsSum (HasCountAt row_each 1 notion g p side) (length (sets_of side g)) all_rows
     → IsSum (HasCountAt value_each 0 notion g p side) (length (sets_of side g)) all_values
     → IsSomeTriggerAt notion g p side trigger → HasBlock g p trigger floor cols more (rows + all_rows) (values + all_values)
-at_sets_block notion g p whose side trigger rows values floor cols all_rows all_values more blocks row_sum value_sum (set, k, times, triggers, which, is) =
+at_sets_block notion g p whose side trigger rows values floor cols all_rows all_values more blocks row_sum value_sum
+    (set, k, times, triggers, which, is) =
     let inside = set_in notion g p whose side set k trigger is in
     let row = stands notion g p side set k times triggers which inside row_each 1 all_rows row_sum in
     let value = stands notion g p side set k times triggers which inside value_each 0 all_values value_sum in
