@@ -21,6 +21,7 @@ pub mod RowPlaces
 pub mod RowSums
 pub mod RowTerms
 pub mod SetNodes
+pub mod SolutionValues
 pub mod Solving
 pub mod Spreading
 pub mod SumRows
@@ -29,4 +30,3 @@ pub mod TestedSums
 pub mod Triggers
 pub mod Under
 pub mod ValueColumns
-pub mod SolutionValues
