@@ -18,7 +18,8 @@ use Rattle.equilibrium_solutions.specs.Departure.{OwnSequences, beside_node, in_
 use Rattle.equilibrium_solutions.specs.Values.{IsProgramTrigger}
 use Rattle.equilibrium_solutions.proofs.ListGains.{met, played}
 use Rattle.equilibrium_solutions.proofs.Numbers.{node_plays}
-use Rattle.equilibrium_solutions.proofs.TestedSums.{pair_of, tested_sum, tests_of_plans}
+use Rattle.equilibrium_solutions.proofs.Relevance.{pair_of}
+use Rattle.equilibrium_solutions.proofs.TestedSums.{tested_sum, tests_of_plans}
 use Rattle.equilibrium_solutions.proofs.Triggers.{meets_plays, with_sequence}
 
 -- the pair of these sequences has a column

@@ -69,7 +69,7 @@ module _ (g : GameView) (rules : IsGame g) (p : PairsView) (pairs : IsPairs p) (
       ]
 
   -- a trigger's sequence is one of the player's, and its last move is on the path to each leaf that counts
-  trigger_on_path : (notion : Notion) (trigger : Trigger) (own : OwnSequences trigger.side g) (x : ℕ → ℤ) (n : ℕ)
+  pub trigger_on_path : (notion : Notion) (trigger : Trigger) (own : OwnSequences trigger.side g) (x : ℕ → ℤ) (n : ℕ)
       → IsProgramTrigger notion g p trigger.side trigger → n < length g.nodes → CountsAt trigger.side g trigger.set (own.node n)
       → (trigger.seq < count_of (side_of trigger.side p.seqs))
       × IsOnPath g trigger.side n (last_of (side_of trigger.side p.seqs) trigger.seq)

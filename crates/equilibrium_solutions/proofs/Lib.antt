@@ -20,6 +20,7 @@ pub mod RowMeaning
 pub mod RowPlaces
 pub mod RowSums
 pub mod RowTerms
+pub mod Same
 pub mod SetNodes
 pub mod SolutionValues
 pub mod Solving

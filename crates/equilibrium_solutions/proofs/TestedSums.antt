@@ -9,6 +9,7 @@ use Rattle.sequences.specs.Number.{Plays, SeqsView, side_of}
 use Rattle.connected_pairs.specs.Table.{other}
 use Rattle.equilibrium.specs.Distribution.{Entry}
 use Rattle.equilibrium_solutions.specs.ColumnSums.{IsWeightAt, SumsTo}
+use Rattle.equilibrium_solutions.proofs.Relevance.{pair_of}
 
 -- a test says of each entry of a list whether it plays the pair
 abbrev pub Tests : SeqsView → ℕ × ℕ → (Entry → Bool) → List Entry → Type 0
@@ -50,11 +51,6 @@ sum_of_tested s pair test (entry ∷ rest) same = (
         → IsWeightAt s pair entry (cond b (pos entry.weight) (pos 0))
     by true h = inl (h.0 refl, refl)
     by false h = inr (λ plays. absurd (let no = h.1 plays in cc), refl)
-
--- a player's sequence and the other's, in the order of players 1 and 2
-abbrev pub pair_of : Side → ℕ → ℕ → ℕ × ℕ
-pair_of One own beside = (own, beside)
-pair_of Two own beside = (beside, own)
 
 parts : (a b : Bool) → a && b ≡ true → (a ≡ true) × (b ≡ true)
 parts true true h = (refl, refl)
