@@ -16,11 +16,10 @@ use Rattle.equilibrium.specs.Leaves.{leaf_amount}
 use Rattle.equilibrium_solutions.specs.ColumnSums.{AreColumnSums}
 use Rattle.equilibrium_solutions.specs.Decision.{gets}
 use Rattle.equilibrium_solutions.specs.Departure.{OwnSequences, departure, followed, has_followed}
-use Rattle.equilibrium_solutions.specs.Values.{IsProgramTrigger}
+use Rattle.equilibrium_solutions.specs.Values.{IsProgramTrigger, stands_for}
 use Rattle.equilibrium_solutions.proofs.LeafColumns.{HasColumn, met_column, played_column}
 use Rattle.equilibrium_solutions.proofs.ListGains.{met, played}
 use Rattle.equilibrium_solutions.proofs.PlanMoves.{action_of, counted, taken, top_of}
-use Rattle.equilibrium_solutions.proofs.Triggers.{with_sequence}
 
 first_of : (a b : Bool) → a && b ≡ true → a ≡ true
 first_of true b h = refl
@@ -34,13 +33,13 @@ tested_alike false u v h = refl
 module _ (g : GameView) (rules : IsGame g) (p : PairsView) (pairs : IsPairs p) (of : IsPairsOf g p) (side : Side) (recall : HasRecall g side)
     (own : OwnSequences side g) (others : OwnSequences (other side) g) (list : List Entry) (x : ℕ → ℤ) (sums : AreColumnSums p list x)
     (notion : Notion) (trigger : Trigger) (seq : ℕ) (of_notion : IsTriggerOf notion g side trigger)
-    (is : IsProgramTrigger notion g p side (with_sequence side trigger seq)) where
+    (is : IsProgramTrigger notion g p side (stands_for side trigger seq)) where
   pub got_is_gets : (choice : List ℕ)
       → ((n : ℕ) → n < length g.nodes → counted side g (top_of trigger) (own.node n) ≡ true
       → HasColumn p side seq (slice_index (side_of (other side) p.seqs).nodes n))
       → sum_to (length g.nodes) (λ n. cond (taken side g (top_of trigger) choice (own.node n))
       (leaf_amount side (slice_get g.nodes n) *ℤ met side g trigger others.node list n) (pos 0))
-      ≡ gets (departure g p (with_sequence side trigger seq) own x) (λ set. slice_index choice set)
+      ≡ gets (departure g p (stands_for side trigger seq) own x) (λ set. slice_index choice set)
   got_is_gets choice relevant =
       sum_to-same (length g.nodes) _ _ (λ n low.
       tested_alike (taken side g (top_of trigger) choice (own.node n)) _ _ (λ there.
@@ -52,7 +51,7 @@ module _ (g : GameView) (rules : IsGame g) (p : PairsView) (pairs : IsPairs p) (
       → HasColumn p side (slice_index (side_of side p.seqs).nodes n) (slice_index (side_of (other side) p.seqs).nodes n))
       → sum_to (length g.nodes) (λ n. cond (has_followed (top_of trigger) (action_of trigger) (own.node n))
       (leaf_amount side (slice_get g.nodes n) *ℤ played side own.node others.node list n) (pos 0))
-      ≡ followed g p (with_sequence side trigger seq) own x
+      ≡ followed g p (stands_for side trigger seq) own x
   followed_is_followed relevant =
       sum_to-same (length g.nodes) _ _ (λ n low.
       ap (λ (z : ℤ). cond (has_followed (top_of trigger) (action_of trigger) (own.node n)) (leaf_amount side (slice_get g.nodes n) *ℤ z) (pos 0))

@@ -21,14 +21,13 @@ use Rattle.equilibrium.specs.FullChoice.{IsFullChoice}
 use Rattle.equilibrium_solutions.specs.ColumnSums.{AreColumnSums}
 use Rattle.equilibrium_solutions.specs.Decision.{Decision, GoesBack, IsChoice, IsDecision, at_start, counts, gets, takes}
 use Rattle.equilibrium_solutions.specs.Departure.{OwnSequences, actions_there, departure, followed}
-use Rattle.equilibrium_solutions.specs.Values.{HasValues, IsProgramTrigger}
+use Rattle.equilibrium_solutions.specs.Values.{HasValues, IsProgramTrigger, stands_for}
 use Rattle.equilibrium_solutions.proofs.Departing.{is_decision}
 use Rattle.equilibrium_solutions.proofs.Gettings.{followed_is_followed, got_is_gets}
 use Rattle.equilibrium_solutions.proofs.LeafColumns.{HasColumn}
 use Rattle.equilibrium_solutions.proofs.ListGains.{no_gain_where}
 use Rattle.equilibrium_solutions.proofs.PlanMoves.{counted, top_of}
 use Rattle.equilibrium_solutions.proofs.Solving.{bounded_by_values, solved}
-use Rattle.equilibrium_solutions.proofs.Triggers.{with_sequence}
 
 -- ---- choices as functions and as lists
 
@@ -92,11 +91,11 @@ module _ (g : GameView) (rules : IsGame g) (p : PairsView) (pairs : IsPairs p) (
       → HasColumn p side seq (slice_index (side_of (other side) p.seqs).nodes n)
 
   -- a full choice gains nothing at a trigger exactly where it gets no more than following does
-  gains_nothing : (notion : Notion) (trigger : Trigger) (seq : ℕ) → IsTriggerOf notion g side trigger
-      → IsProgramTrigger notion g p side (with_sequence side trigger seq) → HasLeftColumns trigger seq → (choice : List ℕ)
+  pub gains_nothing : (notion : Notion) (trigger : Trigger) (seq : ℕ) → IsTriggerOf notion g side trigger
+      → IsProgramTrigger notion g p side (stands_for side trigger seq) → HasLeftColumns trigger seq → (choice : List ℕ)
       → GainsNoMore side g no_slack list trigger choice
-      ↔ (gets (departure g p (with_sequence side trigger seq) own x) (λ set. slice_index choice set)
-      ≤ℤ followed g p (with_sequence side trigger seq) own x)
+      ↔ (gets (departure g p (stands_for side trigger seq) own x) (λ set. slice_index choice set)
+      ≤ℤ followed g p (stands_for side trigger seq) own x)
   gains_nothing notion trigger seq of_notion is relevant choice =
       let where_none = no_gain_where side g rules recall own others trigger choice list each in
       let got = got_is_gets g rules p pairs of side recall own others list x sums notion trigger seq of_notion is choice relevant in
@@ -105,12 +104,12 @@ module _ (g : GameView) (rules : IsGame g) (p : PairsView) (pairs : IsPairs p) (
 
   -- where a trigger's sets have such values no full choice gains there
   pub none_gains : (notion : Notion) (trigger : Trigger) (seq : ℕ) → IsTriggerOf notion g side trigger
-      → IsProgramTrigger notion g p side (with_sequence side trigger seq) → HasLeftColumns trigger seq
-      → HasValues g p (with_sequence side trigger seq) own x → (choice : List ℕ) → IsFullChoice side g choice
+      → IsProgramTrigger notion g p side (stands_for side trigger seq) → HasLeftColumns trigger seq
+      → HasValues g p (stands_for side trigger seq) own x → (choice : List ℕ) → IsFullChoice side g choice
       → GainsNoMore side g no_slack list trigger choice
   none_gains notion trigger seq of_notion is relevant has choice full =
-      let d = departure g p (with_sequence side trigger seq) own x in
-      let decides = is_decision g rules p pairs of (with_sequence side trigger seq) own x in
+      let d = departure g p (stands_for side trigger seq) own x in
+      let decides = is_decision g rules p pairs of (stands_for side trigger seq) own x in
       let in_range : IsChoice d (λ set. slice_index choice set) = λ set low.
       (let info = info_at (sets_of side g) set low in
       let named = read_at choice set (omega (arith, full.per_set)) in
@@ -123,12 +122,12 @@ module _ (g : GameView) (rules : IsGame g) (p : PairsView) (pairs : IsPairs p) (
 
   -- and where no full choice gains a trigger's sets have such values
   pub has_values : (notion : Notion) (trigger : Trigger) (seq : ℕ) → IsTriggerOf notion g side trigger
-      → IsProgramTrigger notion g p side (with_sequence side trigger seq) → HasLeftColumns trigger seq
+      → IsProgramTrigger notion g p side (stands_for side trigger seq) → HasLeftColumns trigger seq
       → ((choice : List ℕ) → IsFullChoice side g choice → GainsNoMore side g no_slack list trigger choice)
-      → HasValues g p (with_sequence side trigger seq) own x
+      → HasValues g p (stands_for side trigger seq) own x
   has_values notion trigger seq of_notion is relevant none =
-      let d = departure g p (with_sequence side trigger seq) own x in
-      let decides = is_decision g rules p pairs of (with_sequence side trigger seq) own x in
+      let d = departure g p (stands_for side trigger seq) own x in
+      let decides = is_decision g rules p pairs of (stands_for side trigger seq) own x in
       let best = solved d decides in
       let choice = listed d.sets best.1 in
       let full : IsFullChoice side g choice = record {
@@ -142,7 +141,7 @@ module _ (g : GameView) (rules : IsGame g) (p : PairsView) (pairs : IsPairs p) (
       } in
       let same = gets_same d decides (λ set. slice_index choice set) best.1 (λ set low. listed-at d.sets best.1 set low) in
       let most = (gains_nothing notion trigger seq of_notion is relevant choice).0 (none choice full) in
-      (best.0, best.2, at_most (at_start d best.0) _ _ (followed g p (with_sequence side trigger seq) own x) best.4 same most)
+      (best.0, best.2, at_most (at_start d best.0) _ _ (followed g p (stands_for side trigger seq) own x) best.4 same most)
     where
       at_most : (s g l f : ℤ) → g ≡ s → l ≡ g → l ≤ℤ f → s ≤ℤ f
       at_most s g l f e h k = omega (arith, ints)

@@ -15,12 +15,12 @@ use Rattle.equilibrium.specs.Leaves.{names_all}
 use Rattle.incentive_rows.specs.Coefficient.{pair_column}
 use Rattle.equilibrium_solutions.specs.ColumnSums.{AreColumnSums, SumsTo}
 use Rattle.equilibrium_solutions.specs.Departure.{OwnSequences, beside_node, in_column}
-use Rattle.equilibrium_solutions.specs.Values.{IsProgramTrigger}
+use Rattle.equilibrium_solutions.specs.Values.{IsProgramTrigger, stands_for}
 use Rattle.equilibrium_solutions.proofs.ListGains.{met, played}
 use Rattle.equilibrium_solutions.proofs.Numbers.{node_plays}
 use Rattle.equilibrium_solutions.proofs.Relevance.{pair_of}
 use Rattle.equilibrium_solutions.proofs.TestedSums.{tested_sum, tests_of_plans}
-use Rattle.equilibrium_solutions.proofs.Triggers.{meets_plays, with_sequence}
+use Rattle.equilibrium_solutions.proofs.Triggers.{meets_plays}
 
 -- the pair of these sequences has a column
 pub record HasColumn (p : PairsView) (side : Side) (own beside : ℕ) : Type 0 where
@@ -51,7 +51,7 @@ module _ (g : GameView) (rules : IsGame g) (p : PairsView) (pairs : IsPairs p) (
       (sum_in_column p side mine theirs list x sums has)
 
   pub met_column : HasRecall g side → (notion : Notion) (trigger : Trigger) (seq : ℕ) → IsTriggerOf notion g side trigger
-      → IsProgramTrigger notion g p side (with_sequence side trigger seq) → (n : ℕ) → n < length g.nodes
+      → IsProgramTrigger notion g p side (stands_for side trigger seq) → (n : ℕ) → n < length g.nodes
       → HasColumn p side seq (slice_index (side_of (other side) p.seqs).nodes n)
       → met side g trigger others.node list n ≡ beside_node p side x seq n
   met_column recall notion trigger seq of_notion is n low has =

@@ -12,8 +12,10 @@ pub mod ListGains
 pub mod MoveNumbers
 pub mod Numbers
 pub mod PaidLeaves
+pub mod Paying
 pub mod PlanMoves
 pub mod ProgramBlocks
+pub mod Recalled
 pub mod ReducedPlans
 pub mod Relevance
 pub mod RowMeaning
@@ -26,6 +28,7 @@ pub mod SolutionValues
 pub mod Solving
 pub mod Spreading
 pub mod SumRows
+pub mod SumsTogether
 pub mod Telescoping
 pub mod TestedSums
 pub mod Triggers

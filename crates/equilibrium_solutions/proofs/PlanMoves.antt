@@ -26,6 +26,7 @@ use Rattle.equilibrium.proofs.Descents.{first_true, leads_by_recall, second_true
 use Rattle.equilibrium.proofs.LeafSums.{names_all-plays}
 use Rattle.equilibrium.proofs.NodesBelow.{above_is_below, below_is_above}
 use Rattle.equilibrium_solutions.specs.Decision.{is_given, takes}
+pub use Rattle.equilibrium_solutions.specs.Values.{action_of, top_of}
 use Rattle.equilibrium_solutions.specs.Departure.{before_play, has_followed, is_move, is_of, some_move}
 
 abbrev Plan : Type 0
@@ -33,17 +34,6 @@ Plan = List (Option ℕ)
 
 abbrev Moves : Type 0
 Moves = List (SetId × ℕ)
-
--- a trigger's set and action, where it has them
-abbrev pub top_of : Trigger → Option SetId
-top_of (Told set action) = Some set
-top_of (Reached set) = Some set
-top_of Start = None
-
-abbrev pub action_of : Trigger → Option ℕ
-action_of (Told set action) = Some action
-action_of (Reached set) = None
-action_of Start = None
 
 -- whether what is behind these moves counts where a player leaves: it is behind a set of the trigger's, or that is the start of play
 abbrev pub counted : Side → GameView → Option SetId → Moves → Bool

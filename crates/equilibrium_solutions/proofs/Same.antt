@@ -1,41 +1,53 @@
 -- A list is an equilibrium list exactly where its column sums extend to a solution of the notion's program: its triggers' sets have values
 -- that are worth no more than following, and the program's rows say so.
-use Rattle.std.proofs.Common.{◌≡◌, ℕ, ◌+◌, ◌<◌, ◌≤◌, true, List, All, length, slice_index, ℤ, pos}
+use Rattle.std.proofs.Common.{◌≡◌, ◌↔◌, ℕ, ◌+◌, ◌<◌, ◌≤◌, true, List, All, length, Option, Some, None, slice_index, ℤ, pos, ◌*ℤ◌, ◌≤ℤ◌, ◌∙◌}
+use Rattle.std.proofs.lemmas.Option.{slice_get_within}
+use Rattle.exact_algebra.specs.Sums.{sum_to}
 use Rattle.std.proofs.Common.{◌<ℤ◌, refl, sym, ap, subst, arith}
 use Rattle.corr_game.specs.declared.notions.Notion.{Notion}
 use Rattle.corr_game.specs.declared.notions.Notion.TheVariants.{Efce, Efcce, Nfcce}
 use Rattle.corr_game.specs.declared.sides.Side.{Side}
+use Rattle.corr_game.specs.declared.sides.Side.TheVariants.{One, Two}
 use Rattle.corr_game.specs.Game.{GameView, IsGame}
 use Rattle.tree_recall.specs.OwnSequence.{HasRecall}
 use Rattle.sequences.specs.Number.{side_of}
 use Rattle.sequences.proofs.Adding.{within}
 use Rattle.connected_pairs.specs.Connected.{IsPairs, IsPairsOf, PairsView, other}
-use Rattle.lp_form.specs.Program.{LpView, right_of}
-use Rattle.lp_form.specs.Solutions.{IsSolution}
+use Rattle.connected_pairs.proofs.Indices.{index_in}
+use Rattle.lp_form.specs.Program.{LpView, joined, payoff_of, right_of}
+use Rattle.lp_form.specs.Solutions.{IsSolution, paid}
 use Rattle.equilibrium.specs.declared.triggers.Trigger.{Trigger}
+use Rattle.equilibrium.specs.Deviation.{IsTriggerOf, following}
 use Rattle.equilibrium.specs.Distribution.{Entry, IsEntry, total}
-use Rattle.equilibrium.specs.Equilibrium.{IsEquilibriumList, no_slack}
+use Rattle.equilibrium.specs.Equilibrium.{GainsNoMore, IsEquilibriumList, no_slack}
+use Rattle.equilibrium.specs.FullChoice.{IsFullChoice}
 use Rattle.incentive_rows.specs.declared.triggers.Trigger.{Trigger as ProgramTrigger}
 use Rattle.incentive_rows.specs.Standing.{HasRowsOf}
 use Rattle.plan_polytope.specs.NotionProgram.{IsProgramOf}
-use Rattle.equilibrium_solutions.specs.ColumnSums.{AreColumnSums}
-use Rattle.equilibrium_solutions.specs.Departure.{OwnSequences}
-use Rattle.equilibrium_solutions.specs.Values.{HasValues, IsProgramTrigger}
+use Rattle.plan_polytope.specs.Payoffs.{column_at}
+use Rattle.plan_polytope.proofs.Units.{at}
+use Rattle.equilibrium_solutions.specs.ColumnSums.{AreColumnSums, Extends, SumsTo}
+use Rattle.equilibrium_solutions.specs.Decision.{gets}
+use Rattle.equilibrium_solutions.specs.Departure.{OwnSequences, departure, followed, in_column}
+use Rattle.equilibrium_solutions.specs.Values.{HasValues, IsProgramTrigger, stands_for}
 use Rattle.equilibrium_solutions.proofs.Assembly.{solution_of_values}
 use Rattle.equilibrium_solutions.proofs.BaseRows.{base_rows_met}
 use Rattle.equilibrium_solutions.proofs.BlockRows.{RowsSay}
-use Rattle.equilibrium_solutions.proofs.Improving.{has_values, none_gains}
-use Rattle.equilibrium_solutions.proofs.LeafColumns.{HasColumn}
+use Rattle.equilibrium_solutions.proofs.Improving.{gains_nothing, has_values, none_gains}
+use Rattle.equilibrium_solutions.proofs.LeafColumns.{HasColumn, played_column}
 use Rattle.equilibrium_solutions.proofs.Leaving.{left_relevant, trigger_on_path}
 use Rattle.equilibrium_solutions.proofs.Numbers.{followed_by, node_last, of_set, set_last}
+use Rattle.equilibrium_solutions.proofs.PaidLeaves.{paid_by_leaves}
+use Rattle.equilibrium_solutions.proofs.Paying.{paid_is_following}
 use Rattle.equilibrium_solutions.proofs.PlanMoves.{counted, top_of}
+use Rattle.equilibrium_solutions.proofs.Recalled.{has_recall}
 use Rattle.equilibrium_solutions.proofs.ReducedPlans.{entries_by}
 use Rattle.equilibrium_solutions.proofs.Relevance.{column_pair, node_low, own_relevant}
 use Rattle.equilibrium_solutions.proofs.RowMeaning.{HasColumns, Read, block_value, row_of_action, row_of_following}
 use Rattle.equilibrium_solutions.proofs.SetNodes.{own_sequences}
 use Rattle.equilibrium_solutions.proofs.SolutionValues.{values_of_solution}
 use Rattle.equilibrium_solutions.proofs.SumRows.{sum_not_negative}
-use Rattle.equilibrium_solutions.proofs.Triggers.{has_rows, is_trigger, with_sequence}
+use Rattle.equilibrium_solutions.proofs.Triggers.{has_rows, is_trigger}
 
 -- a program's trigger is one of its player's
 trigger_side : (notion : Notion) (g : GameView) (p : PairsView) (side : Side) (trigger : ProgramTrigger)
@@ -74,13 +86,14 @@ module _ (g : GameView) (rules : IsGame g) (recall : (side : Side) → HasRecall
             (node_low g rules p pairs of (other side) n low) found.1;
       }
 
-  left_column : (side : Side) (trigger : Trigger) (seq : ℕ) (x : ℕ → ℤ) → IsProgramTrigger notion g p side (with_sequence side trigger seq)
-      → (n : ℕ) → n < length g.nodes → counted side g (top_of trigger) ((own side).node n) ≡ true
+  left_column : (side : Side) (mine : OwnSequences side g) (trigger : Trigger) (seq : ℕ) (x : ℕ → ℤ)
+      → IsProgramTrigger notion g p side (stands_for side trigger seq)
+      → (n : ℕ) → n < length g.nodes → counted side g (top_of trigger) (mine.node n) ≡ true
       → HasColumn p side seq (slice_index (side_of (other side) p.seqs).nodes n)
-  left_column side trigger seq x is n low counts =
-      let t = with_sequence side trigger seq in
-      let found = left_relevant g rules p pairs of notion t (own side) (own (other side)) x n is low counts in
-      let on_path = trigger_on_path g rules p pairs of notion t (own side) x n is low counts in
+  left_column side mine trigger seq x is n low counts =
+      let t = stands_for side trigger seq in
+      let found = left_relevant g rules p pairs of notion t mine (own (other side)) x n is low counts in
+      let on_path = trigger_on_path g rules p pairs of notion t mine x n is low counts in
       record {
         column = found.0;
         there = found.1;
@@ -96,10 +109,10 @@ module _ (g : GameView) (rules : IsGame g) (recall : (side : Side) → HasRecall
       some_weight = some;
       none_improves = λ side trigger choice is full.
           let rows = has_rows g p pairs of side notion trigger is in
-          let has = values_of_solution g p notion lp (total list) x pairs of program solution side (with_sequence side trigger rows.0) rows.1
-          (own side) (read_of side (with_sequence side trigger rows.0) rows.1) in
+          let has = values_of_solution g p notion lp (total list) x pairs of program solution side (stands_for side trigger rows.0) rows.1
+          (own side) (read_of side (stands_for side trigger rows.0) rows.1) in
           none_gains g rules p pairs of side (recall side) (own side) (own (other side)) list each x sums (own_column side)
-          notion trigger rows.0 is rows.1 (left_column side trigger rows.0 x rows.1) has choice full;
+          notion trigger rows.0 is rows.1 (left_column side (own side) trigger rows.0 x rows.1) has choice full;
     }
 
     values_of_list : IsEquilibriumList notion g no_slack list → (side : Side) (trigger : ProgramTrigger)
@@ -110,7 +123,7 @@ module _ (g : GameView) (rules : IsGame g) (recall : (side : Side) → HasRecall
         let Q : ProgramTrigger → Type 0 = λ t. HasValues g p t (own t.side) x in
         let here = subst P left.2 is in
         subst Q (sym left.2) (has_values g rules p pairs of side (recall side) (own side) (own (other side)) list each x sums
-        (own_column side) notion left.0 trigger.seq left.1 here (left_column side left.0 trigger.seq x here)
+        (own_column side) notion left.0 trigger.seq left.1 here (left_column side (own side) left.0 trigger.seq x here)
         (λ choice full. eq.none_improves side left.0 choice left.1 full))
 
     rows_say : (side : Side) (trigger : ProgramTrigger) → IsProgramTrigger notion g p side trigger → (first values : ℕ)
@@ -144,3 +157,74 @@ module _ (g : GameView) (rules : IsGame g) (recall : (side : Side) → HasRecall
         (λ k low. (let pair = within p.pairs k low in sum_not_negative p.seqs pair.0 list (x k) (sums k pair.0 pair.1)))
         (λ row low. base_rows_met g p pairs of x x (λ k h. refl) list reduced sums program.base program.correlation program.base.cols count
         row (right_of lp row) low (λ e. rw e program.right_sides.one) (λ h. program.right_sides.zeros row h))
+
+    pub pays_following : (side : Side) → paid lp side x ≡ following side g list
+    pays_following side =
+        let width = program.more.cols in
+        let wide : length p.pairs ≤ width = omega (arith, program.all_columns) in
+        let inside : (n k : ℕ) → n < length g.nodes → column_at p n ≡ Some k → k < width =
+        λ n k low e. (let here = index_in p pairs _ _ k e in omega (arith, here)) in
+        let by_leaves = paid_by_leaves g p program.base program.payoffs side width x inside in
+        let as_base : paid lp side x ≡ sum_to width (λ k. payoff_of side program.base k *ℤ x k) =
+        rw program.parts (joined_pays side program.base program.more x) in
+        as_base ∙ paid_is_following g rules side (own One).node (own Two).node (own One).each_node (own Two).each_node p list program.base width x
+        by_leaves
+        (λ n low. played_column g rules p pairs of One (own One) (own Two) list x sums n low (own_column One n low) ∙ at_found (column_at p n) x)
+      where
+        joined_pays : (s : Side) (base more : LpView) (y : ℕ → ℤ)
+            → paid (joined base more) s y ≡ sum_to more.cols (λ k. payoff_of s base k *ℤ y k)
+        joined_pays One base more y = refl
+        joined_pays Two base more y = refl
+
+        at_found : (found : Option ℕ) (y : ℕ → ℤ) → in_column y found ≡ at found y
+        at_found None y = refl
+        at_found (Some k) y = refl
+
+-- ---- as laws
+
+pub choice_gains : (notion : Notion) (g : GameView) (p : PairsView) (side : Side) (left : Trigger) (seq : ℕ) (mine : OwnSequences side g)
+    (list : List Entry) (x : ℕ → ℤ) (choice : List ℕ) → IsGame g → IsPairs p → IsPairsOf g p → All (IsEntry g) list
+    → AreColumnSums p list x → IsTriggerOf notion g side left → IsProgramTrigger notion g p side (stands_for side left seq)
+    → GainsNoMore side g no_slack list left choice
+    ↔ (gets (departure g p (stands_for side left seq) mine x) (λ set. slice_index choice set)
+    ≤ℤ followed g p (stands_for side left seq) mine x)
+choice_gains notion g p side left seq mine list x choice rules pairs of each sums of_notion is =
+    let recall = has_recall g rules p pairs of in
+    gains_nothing g rules p pairs of side (recall side) mine (own_sequences (other side) g rules (recall (other side))) list each x sums
+    (own_column g rules recall p pairs of notion side) notion left seq of_notion is
+    (left_column g rules recall p pairs of notion side mine left seq x is) choice
+
+pub none_gains_where : (notion : Notion) (g : GameView) (p : PairsView) (side : Side) (left : Trigger) (seq : ℕ) (mine : OwnSequences side g)
+    (list : List Entry) (x : ℕ → ℤ) → IsGame g → IsPairs p → IsPairsOf g p → All (IsEntry g) list → AreColumnSums p list x
+    → IsTriggerOf notion g side left → IsProgramTrigger notion g p side (stands_for side left seq)
+    → ((choice : List ℕ) → IsFullChoice side g choice → GainsNoMore side g no_slack list left choice)
+    ↔ HasValues g p (stands_for side left seq) mine x
+none_gains_where notion g p side left seq mine list x rules pairs of each sums of_notion is =
+    let recall = has_recall g rules p pairs of in
+    let theirs = own_sequences (other side) g rules (recall (other side)) in
+    let columns = own_column g rules recall p pairs of notion side in
+    let left_columns = left_column g rules recall p pairs of notion side mine left seq x is in (
+      λ none. has_values g rules p pairs of side (recall side) mine theirs list each x sums columns notion left seq of_notion is left_columns none,
+      λ has choice full. none_gains g rules p pairs of side (recall side) mine theirs list each x sums columns notion left seq of_notion is
+          left_columns has choice full,
+    )
+
+pub same : (notion : Notion) (g : GameView) (p : PairsView) (lp : LpView) (list : List Entry) (x : ℕ → ℤ) → IsGame g → IsPairs p
+    → IsPairsOf g p → IsProgramOf g p notion lp → All (IsEntry g) list → pos 0 <ℤ total list → AreColumnSums p list x
+    → IsEquilibriumList notion g no_slack list ↔ ((y : ℕ → ℤ) × Extends p x y × IsSolution lp (total list) y)
+same notion g p lp list x rules pairs of program each some sums =
+    let recall = has_recall g rules p pairs of in (
+      λ eq. solution_of_equilibrium g rules recall p pairs of notion list each x sums lp program eq,
+      λ solved.
+          let y = solved.0 in
+          let sums_too : AreColumnSums p list y = λ k pair at.
+          (let P : ℤ → Type 0 = SumsTo p.seqs pair list in
+          subst P (sym (solved.1 k (slice_get_within p.pairs k pair at))) (sums k pair at)) in
+          equilibrium_of_solution g rules recall p pairs of notion list each y sums_too lp program some solved.2,
+    )
+
+pub pays : (notion : Notion) (g : GameView) (p : PairsView) (lp : LpView) (list : List Entry) (x : ℕ → ℤ) → IsGame g → IsPairs p
+    → IsPairsOf g p → IsProgramOf g p notion lp → All (IsEntry g) list → AreColumnSums p list x
+    → (side : Side) → paid lp side x ≡ following side g list
+pays notion g p lp list x rules pairs of program each sums =
+    pays_following g rules (has_recall g rules p pairs of) p pairs of notion list each x sums lp program

@@ -20,19 +20,9 @@ use Rattle.equilibrium.proofs.Descents.{leads_by_recall}
 use Rattle.equilibrium.proofs.LeafSums.{names_all-plays}
 use Rattle.incentive_rows.specs.declared.triggers.Trigger.{Trigger as ProgramTrigger}
 use Rattle.equilibrium_solutions.specs.Departure.{OwnSequences}
-use Rattle.equilibrium_solutions.specs.Values.{IsProgramTrigger}
+use Rattle.equilibrium_solutions.specs.Values.{IsProgramTrigger, stands_for}
 use Rattle.equilibrium_solutions.proofs.Numbers.{move_plays, set_plays}
-use Rattle.equilibrium_solutions.proofs.PlanMoves.{action_of, top_of}
 use Rattle.equilibrium_solutions.proofs.SetNodes.{has_node, set_is_own}
-
--- a trigger with its sequence, as the program has it
-abbrev pub with_sequence : Side → Trigger → ℕ → ProgramTrigger
-with_sequence side trigger seq = record {
-  side = side;
-  set = top_of trigger;
-  action = action_of trigger;
-  seq = seq;
-}
 
 first_of : (a b : Bool) → a && b ≡ true → a ≡ true
 first_of true b h = refl
@@ -49,7 +39,7 @@ both_of false b h k = absurd (cc)
 module _ (g : GameView) (p : PairsView) (pairs : IsPairs p) (of : IsPairsOf g p) (side : Side) where
   -- each trigger of a notion has rows
   pub has_rows : (notion : Notion) (trigger : Trigger) → IsTriggerOf notion g side trigger
-      → (seq : ℕ) × IsProgramTrigger notion g p side (with_sequence side trigger seq)
+      → (seq : ℕ) × IsProgramTrigger notion g p side (stands_for side trigger seq)
   has_rows Efce (Told set action) is =
       let v = side_of side p.seqs in
       let low : set.0 < length v.places = omega (arith, (of.sides side).per_set, slice_get_within (sets_of side g) set.0 is.0 is.1) in
@@ -78,7 +68,7 @@ module _ (g : GameView) (p : PairsView) (pairs : IsPairs p) (of : IsPairsOf g p)
 
   -- and rows stand for triggers of the notion alone
   pub is_trigger : (notion : Notion) (trigger : ProgramTrigger) → IsProgramTrigger notion g p side trigger
-      → (left : Trigger) × IsTriggerOf notion g side left × (trigger ≡ with_sequence side left trigger.seq)
+      → (left : Trigger) × IsTriggerOf notion g side left × (trigger ≡ stands_for side left trigger.seq)
   is_trigger Efce trigger is = (
     Told (record { 0 = is.0 }) is.1,
     (is.3.0, is.3.1, omega (arith, is.3.2, is.4)),
@@ -102,7 +92,7 @@ module _ (g : GameView) (p : PairsView) (pairs : IsPairs p) (of : IsPairsOf g p)
 
     -- a plan meets a trigger exactly where it plays its sequence
     pub meets_plays : (notion : Notion) (trigger : Trigger) (seq : ℕ) → IsTriggerOf notion g side trigger
-        → IsProgramTrigger notion g p side (with_sequence side trigger seq) → (plan : List (Option ℕ))
+        → IsProgramTrigger notion g p side (stands_for side trigger seq) → (plan : List (Option ℕ))
         → (meets side g trigger plan ≡ true) ↔ Plays (side_of side p.seqs) plan seq
     meets_plays Efce (Told set action) seq of_notion is plan =
         let low = slice_get_within (sets_of side g) set.0 of_notion.0 of_notion.1 in
@@ -114,9 +104,9 @@ module _ (g : GameView) (p : PairsView) (pairs : IsPairs p) (of : IsPairsOf g p)
         let ends : Ends (side_of side p.seqs).places (set, action) seq = subst₂ End (sym at) (sym told) is.5.3 in
         let by = move_plays g rules p pairs of side own plan set.0 action seq ends in (
           λ h. by.1 (both_of named (names_all plan (own.set set.0)) (second_of (leads side g plan set.0) named h)
-          (led.0 (first_of (leads side g plan set.0) named h))),
+              (led.0 (first_of (leads side g plan set.0) named h))),
           λ plays. both_of (leads side g plan set.0) named (led.1 (second_of named (names_all plan (own.set set.0)) (by.0 plays)))
-          (first_of named (names_all plan (own.set set.0)) (by.0 plays)),
+              (first_of named (names_all plan (own.set set.0)) (by.0 plays)),
         )
     meets_plays Efce (Reached set) seq of_notion is plan = absurd of_notion
     meets_plays Efce Start seq of_notion is plan = absurd of_notion

@@ -1,6 +1,6 @@
 -- Column sums of a list of weighted pairs of plans: what the weights of the entries sum to that play a pair of sequences (the joint
 -- plans behind the correlation rows of von Stengel and Forges 2008).
-use Rattle.std.specs.Prelude.{◌≡◌, ℕ, List, [], ◌∷◌, Some, slice_get, ℤ, pos, ◌+ℤ◌}
+use Rattle.std.specs.Prelude.{◌≡◌, ℕ, ◌<◌, List, [], ◌∷◌, length, Some, slice_get, ℤ, pos, ◌+ℤ◌}
 use Rattle.sequences.specs.Number.{Plays, SeqsView}
 use Rattle.connected_pairs.specs.Connected.{PairsView}
 use Rattle.incentive_rows.specs.Term.{IsTerm}
@@ -19,3 +19,7 @@ SumsTo s pair (entry ∷ rest) total =
 -- in the column of each relevant pair stands its sum
 abbrev pub AreColumnSums : PairsView → List Entry → (ℕ → ℤ) → Type 0
 AreColumnSums p list x = (k : ℕ) (pair : ℕ × ℕ) → slice_get p.pairs k ≡ Some pair → SumsTo p.seqs pair list (x k)
+
+-- numbers for a program's columns have these in the columns of the pairs
+abbrev pub Extends : PairsView → (ℕ → ℤ) → (ℕ → ℤ) → Type 0
+Extends p x y = (k : ℕ) → k < length p.pairs → y k ≡ x k
