@@ -7,4 +7,5 @@ mod Greater
 mod Growing
 mod Mixtures
 mod Ranks
+mod RoundLists
 mod Shown
