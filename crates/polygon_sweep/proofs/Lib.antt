@@ -7,5 +7,6 @@ mod Greater
 mod Growing
 mod Mixtures
 mod Ranks
+mod RoundAxes
 mod RoundLists
 mod Shown

@@ -41,7 +41,7 @@ turned_slope n (pos x) (pos y) (negsuc v) w x_low v_low x_over y_over v_over w_o
 turned_slope n (pos x) (pos y) (pos v) (negsuc w) x_low v_low x_over y_over v_over w_over left = absurd (omega (arith, ints))
 
 -- to the left of (x, y) in the first quarter, and not past the axis behind it: a rise above 0
-rises_over : (x y v w : ℤ) → pos 0 <ℤ x → pos 0 ≤ℤ y → pos 0 ≤ℤ v → pos 0 <ℤ cross x y v w → pos 0 <ℤ w
+pub rises_over : (x y v w : ℤ) → pos 0 <ℤ x → pos 0 ≤ℤ y → pos 0 ≤ℤ v → pos 0 <ℤ cross x y v w → pos 0 <ℤ w
 rises_over x y v w x_over y_over v_over left =
     let product = product_not_negative y_over v_over in
     factor_positive x (omega (arith, ints)) (let whole : pos 0 <ℤ (x *ℤ w) = omega (arith, ints) in whole)
@@ -84,20 +84,20 @@ rank_in n a b (none h k) = 0
 turned_low : (n : ℕ) (a : ℤ) → unsigned_abs a ≤ n → unsigned_abs (neg_ℤ a) ≤ n
 turned_low n a low = omega (arith, ints)
 
-negated_over : (a : ℤ) → a <ℤ pos 0 → pos 0 <ℤ neg_ℤ a
+pub negated_over : (a : ℤ) → a <ℤ pos 0 → pos 0 <ℤ neg_ℤ a
 negated_over a h = omega (arith, ints)
 
-negated_at_least : (a : ℤ) → a ≤ℤ pos 0 → pos 0 ≤ℤ neg_ℤ a
+pub negated_at_least : (a : ℤ) → a ≤ℤ pos 0 → pos 0 ≤ℤ neg_ℤ a
 negated_at_least a h = omega (arith, ints)
 
 -- turned by one, two and three right angles, two vectors span the same area
-by_one : (a b c d : ℤ) → pos 0 <ℤ cross a b c d → pos 0 <ℤ cross b (neg_ℤ a) d (neg_ℤ c)
+pub by_one : (a b c d : ℤ) → pos 0 <ℤ cross a b c d → pos 0 <ℤ cross b (neg_ℤ a) d (neg_ℤ c)
 by_one a b c d h = let same : cross a b c d ≡ cross b (neg_ℤ a) d (neg_ℤ c) = simp ring_laws (omega (arith, linear)) in subst (λ e. pos 0 <ℤ e) same h
 
-by_two : (a b c d : ℤ) → pos 0 <ℤ cross a b c d → pos 0 <ℤ cross (neg_ℤ a) (neg_ℤ b) (neg_ℤ c) (neg_ℤ d)
+pub by_two : (a b c d : ℤ) → pos 0 <ℤ cross a b c d → pos 0 <ℤ cross (neg_ℤ a) (neg_ℤ b) (neg_ℤ c) (neg_ℤ d)
 by_two a b c d h = let same : cross a b c d ≡ cross (neg_ℤ a) (neg_ℤ b) (neg_ℤ c) (neg_ℤ d) = simp ring_laws (omega (arith, linear)) in subst (λ e. pos 0 <ℤ e) same h
 
-by_three : (a b c d : ℤ) → pos 0 <ℤ cross a b c d → pos 0 <ℤ cross (neg_ℤ b) a (neg_ℤ d) c
+pub by_three : (a b c d : ℤ) → pos 0 <ℤ cross a b c d → pos 0 <ℤ cross (neg_ℤ b) a (neg_ℤ d) c
 by_three a b c d h = let same : cross a b c d ≡ cross (neg_ℤ b) a (neg_ℤ d) c = simp ring_laws (omega (arith, linear)) in subst (λ e. pos 0 <ℤ e) same h
 
 module _ (n : ℕ) (a b c d : ℤ) (a_low : unsigned_abs a ≤ n) (b_low : unsigned_abs b ≤ n) (c_low : unsigned_abs c ≤ n) (d_low : unsigned_abs d ≤ n) (left : pos 0 <ℤ cross a b c d) where
