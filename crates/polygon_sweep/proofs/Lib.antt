@@ -8,5 +8,6 @@ mod Growing
 mod Mixtures
 mod Ranks
 mod RoundAxes
+mod RoundCorners
 mod RoundLists
 mod Shown
