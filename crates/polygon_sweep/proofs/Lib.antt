@@ -10,4 +10,5 @@ mod Ranks
 mod RoundAxes
 mod RoundCorners
 mod RoundLists
+mod RoundTurns
 mod Shown
