@@ -8,6 +8,7 @@ mod Growing
 mod Mixtures
 mod Ranks
 mod RoundAxes
+mod RoundBelt
 mod RoundCorners
 mod RoundLists
 mod RoundTurns
