@@ -42,7 +42,8 @@ keeps_up_to a b sides more (in_fourth h k axes) = in_fourth h k (keeps_axes side
 gets_direction : (sides : List SideRow) (side : SideRow) → HasDirection side.dir.a side.dir.b (sides ++ side ∷ [])
 gets_direction sides side = (length sides, side, stands_last sides side, (refl, refl))
 
-met_twice : (sides : List SideRow) (here there : SideRow) (dir : Dir) → here.dir ≡ dir → HasDirection dir.a dir.b (sides ++ here ∷ there ∷ [])
+met_twice : (sides : List SideRow) (here there : SideRow) (dir : Dir) → here.dir ≡ dir
+    → HasDirection dir.a dir.b (sides ++ here ∷ there ∷ [])
 met_twice sides here there dir same =
     subst (λ (all : List SideRow). HasDirection dir.a dir.b all) (one_by_one sides here there)
     (keeps_direction dir.a dir.b (sides ++ here ∷ []) (there ∷ [])
@@ -105,7 +106,8 @@ module _ (sides : List SideRow) (dir next : Dir) (short : TurnsShort dir next) (
 
       fall : next.a <ℤ pos 0
       fall =
-          let rise = rises_over dir.b (neg_ℤ dir.a) next.b (neg_ℤ next.a) k (negated_at_least dir.a h) over (by_one dir.a dir.b next.a next.b left) in
+          let rise = rises_over dir.b (neg_ℤ dir.a) next.b (neg_ℤ next.a) k (negated_at_least dir.a h) over
+          (by_one dir.a dir.b next.a next.b left) in
           omega (arith, ints)
 
       by : (pos 0 <ℤ next.b) ⊎ (next.b ≡ pos 0) → AxesUpTo sides next.a next.b
@@ -114,7 +116,8 @@ module _ (sides : List SideRow) (dir next : Dir) (short : TurnsShort dir next) (
           let one = minus_one next.a fall (rw level at short.coprime) in
           in_third fall (omega (arith, ints)) up (meets (negsuc 0) (pos 0) (one, level) (inr (inr (inl (one, level)))))
 
-  from_third : dir.a <ℤ pos 0 → dir.b ≤ℤ pos 0 → HasDirection (pos 0) (pos 1) sides → HasDirection (negsuc 0) (pos 0) sides → AxesUpTo sides next.a next.b
+  from_third : dir.a <ℤ pos 0 → dir.b ≤ℤ pos 0 → HasDirection (pos 0) (pos 1) sides → HasDirection (negsuc 0) (pos 0) sides
+      → AxesUpTo sides next.a next.b
   from_third h k up left_axis = by (below_or_level next.a under)
     where
       under : next.a ≤ℤ pos 0
@@ -140,7 +143,9 @@ module _ (sides : List SideRow) (dir next : Dir) (short : TurnsShort dir next) (
       under = let there = short.turns.no_axis (pos 1) (pos 0) (inl (refl, refl)) (omega (arith, ints)) in omega (arith, ints)
 
       rise : pos 0 <ℤ next.a
-      rise = rises_over (neg_ℤ dir.b) dir.a (neg_ℤ next.b) next.a (negated_over dir.b k) h (negated_at_least next.b under) (by_three dir.a dir.b next.a next.b left)
+      rise =
+          rises_over (neg_ℤ dir.b) dir.a (neg_ℤ next.b) next.a (negated_over dir.b k) h (negated_at_least next.b under)
+          (by_three dir.a dir.b next.a next.b left)
 
       by : (next.b <ℤ pos 0) ⊎ (next.b ≡ pos 0) → AxesUpTo sides next.a next.b
       by (inl below) = in_fourth (let rise = rise in omega (arith, ints)) below axes
@@ -180,7 +185,8 @@ full_turn_axes sides dir last turns right (in_first h k) =
 full_turn_axes sides dir last turns right (in_second h k up) =
     absurd (let left = rw (right.0, right.1) at turns.left in omega (arith, ints))
 full_turn_axes sides dir last turns right (in_third h k up left_axis) =
-    absurd (let there = rw (right.0, right.1) at turns.no_axis (pos 0) (negsuc 0) (inr (inr (inr (refl, refl)))) (omega (arith, ints)) in omega (arith, ints))
+    let there = rw (right.0, right.1) at turns.no_axis (pos 0) (negsuc 0) (inr (inr (inr (refl, refl)))) (omega (arith, ints)) in
+    absurd (omega (arith, ints))
 full_turn_axes sides dir last turns right (in_fourth h k axes) = axes
 
 pub round_axes : {Apart : ℕ → ℕ → Type 0} {count : ℕ} {sides : List SideRow} → GoneRound Apart count sides → HasAxes sides

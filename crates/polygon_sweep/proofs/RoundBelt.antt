@@ -49,7 +49,8 @@ module _ (points : List Point) (sides : List SideRow) (round : IsRound points (l
     where
       by : IsNext (length sides) j k → IsNext (length sides) k l → PairsWith x y z
       by (inl (_, up)) (inl (_, more)) =
-          round.paired.each j x y z at_x (at_place sides k (suc j) y (omega arith) at_y) (at_place sides l (suc (suc j)) z (omega arith) at_z)
+          round.paired.each j x y z at_x (at_place sides k (suc j) y (omega arith) at_y)
+          (at_place sides l (suc (suc j)) z (omega arith) at_z)
       by (inl (_, up)) (inr (end, start)) =
           (round.ending z (at_place sides l 0 z start at_z)).last j x y (omega arith) at_x (at_place sides k (suc j) y (omega arith) at_y)
       by (inr (end, start)) (inl (_, more)) =
@@ -77,7 +78,8 @@ may_follow count back k from to (turns_there same angle) not_right =
     inl (same, record { not_round = λ full. not_right full.0 full.1; greater = inr angle })
 may_follow count back k from to (leads_along same leads apart) not_right = inr (same, next_of count back from.corner to.corner leads)
 
-to_right : (k : ℕ) (from to : SideRow) → from.corner ≡ to.corner → IsRight to.dir → (0 < k → IsRight from.dir → ⊥) → (corners : ℕ) → MayFollow corners k from to
+to_right : (k : ℕ) (from to : SideRow) → from.corner ≡ to.corner → IsRight to.dir → (0 < k → IsRight from.dir → ⊥) → (corners : ℕ)
+    → MayFollow corners k from to
 to_right k from to same right not_right corners = inl (same, record { not_round = λ full. not_right full.0 full.1; greater = inl right })
 
 module _ (Apart : ℕ → ℕ → Type 0) (points : List Point) (differ : (j k : ℕ) → Apart j k → slice_get points j ≢ slice_get points k) where
@@ -85,7 +87,8 @@ module _ (Apart : ℕ → ℕ → Type 0) (points : List Point) (differ : (j k :
   points_part count back from to (turns_there same angle) = λ apart. absurd (apart same)
   points_part count back from to (leads_along same leads apart) = λ _. differ from.corner to.corner apart
 
-  module _ (count : ℕ) (sides : List SideRow) (dir : Dir) (present : ℕ) (back : Bool) (are : AreInRow Apart count sides dir present back) where
+  module _ (count : ℕ) (sides : List SideRow) (dir : Dir) (present : ℕ) (back : Bool)
+      (are : AreInRow Apart count sides dir present back) where
     not_right : (k : ℕ) (side : SideRow) → slice_get sides k ≡ Some side → 0 < k → IsRight side.dir → ⊥
     not_right zero side at over = absurd (omega arith)
     not_right (suc k) side at over = are.not_right.each k side at
@@ -113,13 +116,15 @@ module _ (Apart : ℕ → ℕ → Type 0) (points : List Point) (differ : (j k :
         edge x y (inr same) = inr (inl same)
 
     -- and at the corner reached
-    follows_last : (k : ℕ) (last side : SideRow) → suc k ≡ length sides → slice_get sides k ≡ Some last → side.corner ≡ present → IsRight side.dir
+    follows_last : (k : ℕ) (last side : SideRow) → suc k ≡ length sides → slice_get sides k ≡ Some last → side.corner ≡ present
+        → IsRight side.dir
         → MayFollow count k last side × PointsDiffer points last side
     follows_last k last side end at corner right =
         let same : last.corner ≡ side.corner = (are.last.last k last end at).corner ∙ sym corner in
         (to_right k last side same right (not_right k last at) count, λ apart. absurd (apart same))
 
-  round_of : (count : ℕ) (sides : List SideRow) → GoneRound Apart count sides → HasAxes sides → GoesRoundOnce count sides → IsBegun sides → IsRound points count sides
+  round_of : (count : ℕ) (sides : List SideRow) → GoneRound Apart count sides → HasAxes sides → GoesRoundOnce count sides → IsBegun sides
+      → IsRound points count sides
   round_of count sides (at_first _ _ dir last back turned turns right alone) axes once first_is =
       let are = in_row count sides dir 0 back turned in
       record {
@@ -155,7 +160,8 @@ module _ (Apart : ℕ → ℕ → Type 0) (points : List Point) (differ : (j k :
       begins = begins_of (sides ++ side ∷ []) first_is
 
       follow : (k : ℕ) (from to : SideRow) → slice_get (sides ++ side ∷ []) k ≡ Some from
-          → (slice_get sides (suc k) ≡ Some to) ⊎ ((suc k ≡ length sides) × (side ≡ to)) → MayFollow count k from to × PointsDiffer points from to
+          → (slice_get sides (suc k) ≡ Some to) ⊎ ((suc k ≡ length sides) × (side ≡ to))
+          → MayFollow count k from to × PointsDiffer points from to
       follow k from to at_from (inl old) =
           let inside = slice_get_within sides (suc k) to old in
           follows count sides dir present false are k from to (stood sides side from k (omega arith) at_from) old
@@ -163,28 +169,34 @@ module _ (Apart : ℕ → ℕ → Type 0) (points : List Point) (differ : (j k :
           subst (λ (s : SideRow). MayFollow count k from s × PointsDiffer points from s) same
           (follows_last count sides dir present false are k from side end (stood sides side from k (omega arith) at_from) here right)
 
-      home : (k : ℕ) (first : SideRow) → IsRight first.dir × (first.corner ≡ 0) → MayFollow count k side first × PointsDiffer points side first
+      home : (k : ℕ) (first : SideRow) → IsRight first.dir × (first.corner ≡ 0)
+          → MayFollow count k side first × PointsDiffer points side first
       home k first begins = (
         inr (both_right side.dir first.dir right begins.0, inr (rw here end, begins.1)),
         λ _. rw (here, begins.1) (differ present 0 apart),
       )
 
-      close : (k : ℕ) (last first : SideRow) → suc k ≡ length (sides ++ side ∷ []) → (slice_get sides k ≡ Some last) ⊎ ((k ≡ length sides) × (side ≡ last))
+      close : (k : ℕ) (last first : SideRow) → suc k ≡ length (sides ++ side ∷ [])
+          → (slice_get sides k ≡ Some last) ⊎ ((k ≡ length sides) × (side ≡ last))
           → IsRight first.dir × (first.corner ≡ 0) → MayFollow count k last first × PointsDiffer points last first
       close k last first end (inl old) begins =
           absurd (let inside = slice_get_within sides k last old in let more = longer sides side in omega arith)
       close k last first end (inr (_, same)) begins =
           subst (λ (s : SideRow). MayFollow count k s first × PointsDiffer points s first) same (home k first begins)
 
-      pair : (k : ℕ) (x first : SideRow) → suc k ≡ length sides → slice_get sides k ≡ Some x → IsRight first.dir × (first.corner ≡ 0) → PairsWith x side first
+      pair : (k : ℕ) (x first : SideRow) → suc k ≡ length sides → slice_get sides k ≡ Some x → IsRight first.dir × (first.corner ≡ 0)
+          → PairsWith x side first
       pair k x first end at begins = record {
-        not_three = λ same _. not_right count sides dir present false are k x at (let long = long in omega arith) (right_too side.dir x.dir (sym same) right);
+        not_three = λ same _.
+            not_right count sides dir present false are k x at (let long = long in omega arith)
+            (right_too side.dir x.dir (sym same) right);
         parts = λ _ level. omega (arith, begins.1);
         twin = inl (inl right);
       }
 
 pub round_belt : (Apart : ℕ → ℕ → Type 0) (count : ℕ) (sides : List SideRow) → GoneRound Apart count sides
-    → (points : List Point) → length points ≡ count → ((j k : ℕ) → Apart j k → slice_get points j ≢ slice_get points k) → IsBelt points sides
+    → (points : List Point) → length points ≡ count → ((j k : ℕ) → Apart j k → slice_get points j ≢ slice_get points k)
+    → IsBelt points sides
 round_belt Apart count sides gone points long differ =
     belt_of_round points sides
     (subst (λ (n : ℕ). IsRound points n sides) (sym long)

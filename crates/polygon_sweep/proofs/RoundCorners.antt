@@ -1,4 +1,5 @@
--- Corners while a direction turns once round: they are met in the order of their numbers, each left once, until the sweep is back at the first.
+-- Corners while a direction turns once round: they are met in the order of their numbers, and each is left once, until the sweep is back at
+-- the first.
 use Rattle.std.proofs.Common.{◌≡◌, ◌≢◌, ◌⊎◌, inl, inr, ℕ, ◌+◌, ◌<◌, ◌≤◌, Bool, true, false, List, [], ◌∷◌, ◌++◌, slice_get, Some, length, refl, sym, ◌∙◌, ap, subst, arith}
 use Rattle.plane_hull.specs.declared.directions.Dir.{Dir}
 use Rattle.plane_hull.specs.declared.sides.SideRow.{SideRow}
@@ -62,14 +63,16 @@ round_begun (at_last count sides dir present side turned turns right end over ap
 
 -- ---- sides stand at corners
 
-one_more : (count : ℕ) (sides : List SideRow) (side : SideRow) → StandAtCorners count sides → side.corner < count → StandAtCorners count (sides ++ side ∷ [])
+one_more : (count : ℕ) (sides : List SideRow) (side : SideRow) → StandAtCorners count sides → side.corner < count
+    → StandAtCorners count (sides ++ side ∷ [])
 one_more count sides side stand inside k found at = by (added_or_stood sides side found k at)
   where
     by : (slice_get sides k ≡ Some found) ⊎ ((k ≡ length sides) × (side ≡ found)) → found.corner < count
     by (inl old) = stand k found old
     by (inr (_, same)) = subst (λ (s : SideRow). s.corner < count) same inside
 
-two_more : (count : ℕ) (sides : List SideRow) (here there : SideRow) → StandAtCorners count sides → here.corner < count → there.corner < count
+two_more : (count : ℕ) (sides : List SideRow) (here there : SideRow) → StandAtCorners count sides → here.corner < count
+    → there.corner < count
     → StandAtCorners count (sides ++ here ∷ there ∷ [])
 two_more count sides here there stand first second =
     subst (λ (list : List SideRow). StandAtCorners count list) (one_by_one sides here there)
@@ -124,7 +127,8 @@ stays_there sides corner changes side before same =
     let counted = before.counted in
     record { ends_at = ends_more 0 sides side ∙ same; counted = omega arith }
 
-moves_on : (sides : List SideRow) (corner changes next : ℕ) (side : SideRow) → AreChanged sides corner changes → side.corner ≡ next → corner ≢ next
+moves_on : (sides : List SideRow) (corner changes next : ℕ) (side : SideRow) → AreChanged sides corner changes → side.corner ≡ next
+    → corner ≢ next
     → AreChanged (sides ++ side ∷ []) next (changes + 1)
 moves_on sides corner changes next side before same apart =
     let more = changes_more 0 sides side in
@@ -132,7 +136,8 @@ moves_on sides corner changes next side before same apart =
     let counted = before.counted in
     record { ends_at = ends_more 0 sides side ∙ same; counted = omega arith }
 
-leads_from : (sides : List SideRow) (corner changes next : ℕ) (here there : SideRow) → AreChanged sides corner changes → here.corner ≡ corner
+leads_from : (sides : List SideRow) (corner changes next : ℕ) (here there : SideRow) → AreChanged sides corner changes
+    → here.corner ≡ corner
     → there.corner ≡ next → corner ≢ next → AreChanged (sides ++ here ∷ there ∷ []) next (changes + 1)
 leads_from sides corner changes next here there before same other apart =
     subst (λ (list : List SideRow). AreChanged list next (changes + 1)) (one_by_one sides here there)
@@ -165,7 +170,8 @@ changes_round : (sides : List SideRow) (corner changes : ℕ) → IsBegun sides 
 unfolding ends
 changes_round sides corner changes begun are =
     let last = last_ends 0 begun.first begun.rest in
-    let ends_at : ends begun.first.corner begun.rest ≡ corner = subst (λ (list : List SideRow). ends 0 list ≡ corner) begun.is are.ends_at in
+    let ends_at : ends begun.first.corner begun.rest ≡ corner =
+    subst (λ (list : List SideRow). ends 0 list ≡ corner) begun.is are.ends_at in
     let counted : change 0 begun.first.corner + changes_from begun.first.corner begun.rest ≡ changes =
     subst (λ (list : List SideRow). changes_from 0 list ≡ changes) begun.is are.counted in
     let none = no_change 0 begun.first.corner (sym begun.corner) in
@@ -198,7 +204,8 @@ round_once (at_last count sides dir present side turned turns right end over apa
     let before = changed count sides dir present false turned in
     let one = one_change present 0 (λ e. omega arith) in
     goes_round count (sides ++ side ∷ []) _
-    (changes_round (sides ++ side ∷ []) present present (stays_begun sides (side ∷ []) begun) (stays_there sides present present side before here))
+    (changes_round (sides ++ side ∷ []) present present (stays_begun sides (side ∷ []) begun)
+    (stays_there sides present present side before here))
     (λ e. omega arith) (λ h. omega arith)
 
 pub round_stands : {Apart : ℕ → ℕ → Type 0} {count : ℕ} {sides : List SideRow} → GoneRound Apart count sides → StandAtCorners count sides

@@ -63,7 +63,8 @@ push_behind {X = X} {P = P} {xs = xs} y old new = record { each = λ k x at. by 
     by k x (inl before) = old.each k x before
     by k x (inr (end, same)) = subst P same new
 
-pub push_two : {X : Type 0} {R : X → X → Type 0} {xs : List X} (y : X) → EachTwo R xs → EndsIn (λ last. R last y) xs → EachTwo R (xs ++ y ∷ [])
+pub push_two : {X : Type 0} {R : X → X → Type 0} {xs : List X} (y : X) → EachTwo R xs → EndsIn (λ last. R last y) xs
+    → EachTwo R (xs ++ y ∷ [])
 push_two {X = X} {R = R} {xs = xs} y old new = record { each = λ k x z at_x at_z. by k x z at_x (added_or_stood xs y z (suc k) at_z) }
   where
     by : (k : ℕ) (x z : X) → slice_get (xs ++ y ∷ []) k ≡ Some x → (slice_get xs (suc k) ≡ Some z) ⊎ ((suc k ≡ length xs) × (y ≡ z)) → R x z
@@ -72,7 +73,8 @@ push_two {X = X} {R = R} {xs = xs} y old new = record { each = λ k x z at_x at_
         old.each k x z (stood xs y x k (omega arith) at_x) before
     by k x z at_x (inr (end, same)) = subst (λ (w : X). R x w) same (new.last k x end (stood xs y x k (omega arith) at_x))
 
-pub push_three : {X : Type 0} {R : X → X → X → Type 0} {xs : List X} (y : X) → EachThree R xs → EndsInTwo (λ before last. R before last y) xs
+pub push_three : {X : Type 0} {R : X → X → X → Type 0} {xs : List X} (y : X) → EachThree R xs
+    → EndsInTwo (λ before last. R before last y) xs
     → EachThree R (xs ++ y ∷ [])
 push_three {X = X} {R = R} {xs = xs} y old new =
     record { each = λ k w x z at_w at_x at_z. by k w x z at_w at_x (added_or_stood xs y z (suc (suc k)) at_z) }
@@ -94,7 +96,8 @@ push_end {X = X} {P = P} xs y new = record { last = λ k x end at. by k x end (a
     by k x end (inr (_, same)) = subst P same new
 
 pub push_end_two : {X : Type 0} {R : X → X → Type 0} {xs : List X} (y : X) → EndsIn (λ last. R last y) xs → EndsInTwo R (xs ++ y ∷ [])
-push_end_two {X = X} {R = R} {xs = xs} y new = record { last = λ k x z end at_x at_z. by k x z end at_x (added_or_stood xs y z (suc k) at_z) }
+push_end_two {X = X} {R = R} {xs = xs} y new =
+    record { last = λ k x z end at_x at_z. by k x z end at_x (added_or_stood xs y z (suc k) at_z) }
   where
     by : (k : ℕ) (x z : X) → suc (suc k) ≡ length (xs ++ y ∷ []) → slice_get (xs ++ y ∷ []) k ≡ Some x
         → (slice_get xs (suc k) ≡ Some z) ⊎ ((suc k ≡ length xs) × (y ≡ z)) → R x z

@@ -63,7 +63,8 @@ pub record AreInRow (Apart : ℕ → ℕ → Type 0) (count : ℕ) (sides : List
 -- ---- a direction and sides more
 
 -- a side in a greater direction behind those so far
-module _ {Apart : ℕ → ℕ → Type 0} {count : ℕ} {sides : List SideRow} {dir : Dir} {present : ℕ} {back : Bool} (are : AreInRow Apart count sides dir present back)
+module _ {Apart : ℕ → ℕ → Type 0} {count : ℕ} {sides : List SideRow} {dir : Dir} {present : ℕ} {back : Bool}
+    (are : AreInRow Apart count sides dir present back)
     (next : Dir) (short : TurnsShort dir next) (side : SideRow) (is : IsSideAt next present side) where
   greater : (last : SideRow) → IsLastAt dir present last → IsLess last.dir side.dir
   greater last at = less_behind last.dir dir side.dir at.at_most (subst (λ (d : Dir). IsLess dir d) (sym is.0) (less_of dir next short))
@@ -100,13 +101,15 @@ module _ {Apart : ℕ → ℕ → Type 0} {count : ℕ} {sides : List SideRow} {
 
   -- where an edge leads on, one more side in the same direction
   module _ (more : ℕ) (home : Bool) (wider : (from to : SideRow) → Joins Apart count back from to → Joins Apart more home from to)
-      (target : ℕ) (there : SideRow) (other : IsSideAt next target there) (leads : Leads more home present target) (apart : Apart present target) where
+      (target : ℕ) (there : SideRow) (other : IsSideAt next target there) (leads : Leads more home present target)
+      (apart : Apart present target) where
     same : side.dir ≡ there.dir
     same = is.0 ∙ sym other.0
 
     joins_there : Joins Apart more home side there
     joins_there =
-        leads_along same (subst (λ (j : ℕ). Leads more home j there.corner) (sym is.1) (subst (λ (k : ℕ). Leads more home present k) (sym other.1) leads))
+        leads_along same
+        (subst (λ (j : ℕ). Leads more home j there.corner) (sym is.1) (subst (λ (k : ℕ). Leads more home present k) (sym other.1) leads))
         (subst (λ (j : ℕ). Apart j there.corner) (sym is.1) (subst (λ (k : ℕ). Apart present k) (sym other.1) apart))
 
     joined_more : EachTwo (Joins Apart more home) (sides ++ side ∷ [])
@@ -160,7 +163,8 @@ one_alone side corner = record {
   edge = record { last = λ k x y end at_x at_y. absurd (cc) };
 }
 
-one_corner_more : {Apart : ℕ → ℕ → Type 0} (count : ℕ) (from to : SideRow) → Joins Apart count false from to → Joins Apart (count + 1) false from to
+one_corner_more : {Apart : ℕ → ℕ → Type 0} (count : ℕ) (from to : SideRow) → Joins Apart count false from to
+    → Joins Apart (count + 1) false from to
 one_corner_more count from to (turns_there same angle) = turns_there same angle
 one_corner_more count from to (leads_along same (inl (next, inside)) apart) = leads_along same (inl (next, omega arith)) apart
 one_corner_more count from to (leads_along same (inr h) apart) = absurd (let back = h.0 in cc)
