@@ -1,6 +1,6 @@
 -- What is got behind a trigger for a full choice is what the choice gets in the trigger's departure, and so is what following gets there.
-use Rattle.std.proofs.Common.{◌≡◌, ℕ, ◌<◌, Bool, true, false, ◌&&◌, cond, List, length, slice_get, slice_index, ℤ, pos, ◌*ℤ◌}
-use Rattle.std.proofs.Common.{refl, ap}
+use Rattle.std.proofs.Common.{◌≡◌, ℕ, ◌<◌, true, cond, List, length, slice_get, slice_index, ℤ, pos, ◌*ℤ◌}
+use Rattle.std.proofs.Common.{ap}
 use Rattle.exact_algebra.specs.Sums.{sum_to}
 use Rattle.exact_algebra.proofs.Sums.{sum_to-same}
 use Rattle.corr_game.specs.declared.notions.Notion.{Notion}
@@ -20,15 +20,7 @@ use Rattle.equilibrium_solutions.specs.Values.{IsProgramTrigger, stands_for}
 use Rattle.equilibrium_solutions.proofs.LeafColumns.{HasColumn, met_column, played_column}
 use Rattle.equilibrium_solutions.proofs.ListGains.{met, played}
 use Rattle.equilibrium_solutions.proofs.PlanMoves.{action_of, counted, taken, top_of}
-
-first_of : (a b : Bool) → a && b ≡ true → a ≡ true
-first_of true b h = refl
-first_of false b h = absurd (cc)
-
--- numbers that are the same where a test holds
-tested_alike : (test : Bool) (u v : ℤ) → (test ≡ true → u ≡ v) → cond test u (pos 0) ≡ cond test v (pos 0)
-tested_alike true u v h = h refl
-tested_alike false u v h = refl
+use Rattle.equilibrium_solutions.proofs.Tests.{first_of, tested_alike}
 
 module _ (g : GameView) (rules : IsGame g) (p : PairsView) (pairs : IsPairs p) (of : IsPairsOf g p) (side : Side) (recall : HasRecall g side)
     (own : OwnSequences side g) (others : OwnSequences (other side) g) (list : List Entry) (x : ℕ → ℤ) (sums : AreColumnSums p list x)

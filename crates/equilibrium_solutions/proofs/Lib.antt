@@ -31,6 +31,7 @@ pub mod SumRows
 pub mod SumsTogether
 pub mod Telescoping
 pub mod TestedSums
+pub mod Tests
 pub mod Triggers
 pub mod Under
 pub mod ValueColumns

@@ -12,9 +12,9 @@ use Rattle.corr_game.specs.declared.sides.Side.TheVariants.{One, Two}
 use Rattle.corr_game.specs.Game.{GameView, IsGame, IsNode, sets_of}
 use Rattle.corr_game.specs.Node.{set_at}
 use Rattle.tree_recall.specs.OwnSequence.{HasRecall, IsOwnAt, at_root, other_move, own_move}
-use Rattle.tree_recall.specs.Tree.{IsAbove, further, parent, set_of}
+use Rattle.tree_recall.specs.Tree.{set_of}
 use Rattle.tree_recall.proofs.Kids.{set_node}
-use Rattle.tree_recall.proofs.OwnSequences.{has_own, own_of_kid}
+use Rattle.tree_recall.proofs.OwnSequences.{has_own}
 use Rattle.equilibrium.specs.declared.triggers.Trigger.{Trigger}
 use Rattle.equilibrium.specs.declared.triggers.Trigger.TheVariants.{Told, Reached, Start}
 use Rattle.equilibrium.specs.Deviation.{deviated, meets}
@@ -28,6 +28,7 @@ use Rattle.equilibrium.proofs.NodesBelow.{above_is_below, below_is_above}
 use Rattle.equilibrium_solutions.specs.Decision.{is_given, takes}
 pub use Rattle.equilibrium_solutions.specs.Values.{action_of, top_of}
 use Rattle.equilibrium_solutions.specs.Departure.{before_play, has_followed, is_move, is_of, some_move}
+use Rattle.equilibrium_solutions.proofs.Under.{has_move, move_above}
 
 abbrev Plan : Type 0
 Plan = List (Option ℕ)
@@ -53,45 +54,6 @@ same_tests false false h k = refl
 
 -- ---- sets under another one, by own moves
 
--- behind a node of a set some own move is at the set
-above_moved : (side : Side) (g : GameView) → IsGame g → (top m n : ℕ) (seq : Moves) → IsAbove g m n → set_of g side m ≡ Some top
-    → IsOwnAt g side n seq → some_move (is_move top None) seq ≡ true
-above_moved side g rules top m _ seq (parent action n k) at own =
-    let Moved : Moves → Type 0 = λ moves. some_move (is_move top None) moves ≡ true in
-    let before = own_of_kid g rules side m action n k seq own in
-    elim before.2 [
-      | inl here ↦
-          let number : here.0.0 ≡ top = cc (here.1, at) in
-          let moved : Moved ((here.0, action) ∷ before.0) = or_left (nat_eq here.0.0 top) _ (eq-eqb here.0.0 top number) in
-          subst Moved (sym here.2) moved
-      | inr away ↦ absurd (cc (away.0, at))
-    ]
-above_moved side g rules top m _ seq (further between action n up k) at own =
-    let Moved : Moves → Type 0 = λ moves. some_move (is_move top None) moves ≡ true in
-    let before = own_of_kid g rules side between action n k seq own in
-    let rest = above_moved side g rules top m between before.0 up at before.1 in
-    elim before.2 [
-      | inl here ↦
-          let moved : Moved ((here.0, action) ∷ before.0) = or_right (nat_eq here.0.0 top) _ rest in
-          subst Moved (sym here.2) moved
-      | inr away ↦ subst Moved (sym away.1) rest
-    ]
-
--- an own move at a set was made at a node above
-moved_above : (side : Side) (g : GameView) (top n : ℕ) (seq : Moves) → IsOwnAt g side n seq → some_move (is_move top None) seq ≡ true
-    → (m : ℕ) × (set_of g side m ≡ Some top) × IsAbove g m n
-moved_above side g top _ _ at_root h = absurd (cc)
-moved_above side g top _ _ (own_move m action n set seq own at k) h =
-    elim (or_cases (nat_eq set.0 top) (some_move (is_move top None) seq) h) [
-      | inl here ↦ (m, at ∙ ap (λ (x : ℕ). Some x) (eqb-true set.0 top here), parent action n k)
-      | inr earlier ↦
-          let above = moved_above side g top m seq own earlier in
-          (above.0, above.1, further m action n above.2 k)
-    ]
-moved_above side g top _ _ (other_move m action n seq own at k) h =
-    let above = moved_above side g top m seq own h in
-    (above.0, above.1, further m action n above.2 k)
-
 -- with perfect recall a set is below another one exactly where some own move before it is at that one
 below_by_moves : (side : Side) (g : GameView) → IsGame g → HasRecall g side → (top n set : ℕ) (seq : Moves) → set_of g side n ≡ Some set
     → IsOwnAt g side n seq → is_below side g top set ≡ some_move (is_move top None) seq
@@ -102,11 +64,11 @@ below_by_moves side g rules recall top n set seq at own = same_tests (is_below s
     let low = set_node g side nodes.1 set nodes.3 in
     let there = has_own g rules side nodes.1 low.0 in
     let Moved : Moves → Type 0 = λ moves. some_move (is_move top None) moves ≡ true in
-    let moved = above_moved side g rules top nodes.0 nodes.1 there.0 nodes.4 nodes.2 there.1 in
+    let moved = has_move g rules side top nodes.0 nodes.1 there.0 nodes.4 there.1 nodes.2 in
     subst Moved (recall nodes.1 n set there.0 seq nodes.3 at there.1 own) moved)
     (λ moved.
-    let above = moved_above side g top n seq own moved in
-    above_is_below side g rules top set (above.0, n, above.1, at, above.2))
+    let above = move_above g rules side top n seq own moved in
+    above_is_below side g rules top set (above.0, n, above.2, at, above.1))
 
 pub under_by_own_moves : (side : Side) (g : GameView) → IsGame g → HasRecall g side → (top n set : ℕ) (seq : Moves)
     → set_of g side n ≡ Some set → IsOwnAt g side n seq → is_under side g top set ≡ (nat_eq set top || some_move (is_move top None) seq)

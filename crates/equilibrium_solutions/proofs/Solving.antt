@@ -12,6 +12,7 @@ use Rattle.exact_algebra.proofs.Sums.{sum_to-nothing, sum_to-same}
 use Rattle.corr_game.specs.declared.nodes.SetId.{SetId}
 use Rattle.equilibrium_solutions.specs.Decision.{AreValues, Decision, GoesBack, IsChoice, IsDecision, after, at_start, ends_with, gets, takes}
 use Rattle.equilibrium_solutions.proofs.Telescoping.{lost_together}
+use Rattle.equilibrium_solutions.proofs.Tests.{first_of}
 
 tested_not_negative : (b : Bool) (v : ℤ) → (b ≡ true → pos 0 ≤ℤ v) → pos 0 ≤ℤ cond b v (pos 0)
 tested_not_negative true v h = h refl
@@ -20,10 +21,6 @@ tested_not_negative false v h = omega (arith, ints)
 tested_nothing : (b : Bool) (v : ℤ) → (b ≡ true → v ≡ pos 0) → cond b v (pos 0) ≡ pos 0
 tested_nothing true v h = h refl
 tested_nothing false v h = refl
-
-first_of : (a b : Bool) → a && b ≡ true → a ≡ true
-first_of true b h = refl
-first_of false b h = absurd (cc)
 
 -- values bound what each choice gets
 pub bounded_by_values : (d : Decision) → IsDecision d → (value : ℕ → ℤ) → AreValues d value → (choice : ℕ → ℕ) → IsChoice d choice

@@ -10,6 +10,7 @@ use Rattle.connected_pairs.specs.Table.{other}
 use Rattle.equilibrium.specs.Distribution.{Entry}
 use Rattle.equilibrium_solutions.specs.ColumnSums.{IsWeightAt, SumsTo}
 use Rattle.equilibrium_solutions.proofs.Relevance.{pair_of}
+use Rattle.equilibrium_solutions.proofs.Tests.{both_of, first_of, second_of}
 
 -- a test says of each entry of a list whether it plays the pair
 abbrev pub Tests : SeqsView → ℕ × ℕ → (Entry → Bool) → List Entry → Type 0
@@ -52,16 +53,6 @@ sum_of_tested s pair test (entry ∷ rest) same = (
     by true h = inl (h.0 refl, refl)
     by false h = inr (λ plays. absurd (let no = h.1 plays in cc), refl)
 
-parts : (a b : Bool) → a && b ≡ true → (a ≡ true) × (b ≡ true)
-parts true true h = (refl, refl)
-parts true false h = absurd (cc)
-parts false b h = absurd (cc)
-
-both : (a b : Bool) → a ≡ true → b ≡ true → a && b ≡ true
-both true true h k = refl
-both true false h k = absurd (cc)
-both false b h k = absurd (cc)
-
 -- a test of each player's plan tests the pair
 pub tests_of_plans : (s : SeqsView) (side : Side) (own beside : ℕ) (mine theirs : List (Option ℕ) → Bool) (list : List Entry)
     → ((k : ℕ) (e : Entry) → slice_get list k ≡ Some e
@@ -70,10 +61,10 @@ pub tests_of_plans : (s : SeqsView) (side : Side) (own beside : ℕ) (mine their
     → (theirs (plan_of (other side) e.one e.two) ≡ true) ↔ Plays (side_of (other side) s) (plan_of (other side) e.one e.two) beside)
     → Tests s (pair_of side own beside) (λ e. mine (plan_of side e.one e.two) && theirs (plan_of (other side) e.one e.two)) list
 tests_of_plans s One own beside mine theirs list h k i e at = (
-  λ t. let split = parts (mine e.one) (theirs e.two) t in ((h i e at).0 split.0, (k i e at).0 split.1),
-  λ plays. both (mine e.one) (theirs e.two) ((h i e at).1 plays.0) ((k i e at).1 plays.1),
+  λ t. ((h i e at).0 (first_of (mine e.one) (theirs e.two) t), (k i e at).0 (second_of (mine e.one) (theirs e.two) t)),
+  λ plays. both_of (mine e.one) (theirs e.two) ((h i e at).1 plays.0) ((k i e at).1 plays.1),
 )
 tests_of_plans s Two own beside mine theirs list h k i e at = (
-  λ t. let split = parts (mine e.two) (theirs e.one) t in ((k i e at).0 split.1, (h i e at).0 split.0),
-  λ plays. both (mine e.two) (theirs e.one) ((h i e at).1 plays.1) ((k i e at).1 plays.0),
+  λ t. ((k i e at).0 (second_of (mine e.two) (theirs e.one) t), (h i e at).0 (first_of (mine e.two) (theirs e.one) t)),
+  λ plays. both_of (mine e.two) (theirs e.one) ((h i e at).1 plays.1) ((k i e at).1 plays.0),
 )

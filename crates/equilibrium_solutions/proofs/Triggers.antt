@@ -1,5 +1,5 @@
 -- The triggers of a notion are those whose rows its program has, and a plan meets one exactly where it plays the trigger's sequence.
-use Rattle.std.proofs.Common.{◌≡◌, ◌↔◌, ℕ, ◌+◌, ◌<◌, Bool, true, false, ◌&&◌, List, length, Option, Some, None, slice_get}
+use Rattle.std.proofs.Common.{◌≡◌, ◌↔◌, ℕ, ◌+◌, ◌<◌, true, List, length, Option, Some, None, slice_get}
 use Rattle.std.proofs.Common.{refl, sym, ap, ap₂, subst₂, ◌∙◌, arith}
 use Rattle.std.proofs.lemmas.Option.{slice_get_within}
 use Rattle.corr_game.specs.declared.nodes.SetId.{SetId}
@@ -23,18 +23,7 @@ use Rattle.equilibrium_solutions.specs.Departure.{OwnSequences}
 use Rattle.equilibrium_solutions.specs.Values.{IsProgramTrigger, stands_for}
 use Rattle.equilibrium_solutions.proofs.Numbers.{move_plays, set_plays}
 use Rattle.equilibrium_solutions.proofs.SetNodes.{has_node, set_is_own}
-
-first_of : (a b : Bool) → a && b ≡ true → a ≡ true
-first_of true b h = refl
-first_of false b h = absurd (cc)
-
-second_of : (a b : Bool) → a && b ≡ true → b ≡ true
-second_of true b h = h
-second_of false b h = absurd (cc)
-
-both_of : (a b : Bool) → a ≡ true → b ≡ true → a && b ≡ true
-both_of true b h k = k
-both_of false b h k = absurd (cc)
+use Rattle.equilibrium_solutions.proofs.Tests.{both_of, first_of, second_of}
 
 module _ (g : GameView) (p : PairsView) (pairs : IsPairs p) (of : IsPairsOf g p) (side : Side) where
   -- each trigger of a notion has rows
