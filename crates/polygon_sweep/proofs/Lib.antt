@@ -3,6 +3,7 @@ mod Axes
 mod BasicValues
 mod Certifying
 mod Divisors
+mod Edges
 mod Greater
 mod Growing
 mod Mixtures
