@@ -4,8 +4,10 @@ mod BasicValues
 mod Certifying
 mod Divisors
 mod Edges
+mod Furthest
 mod Greater
 mod Growing
+mod Leading
 mod Mixtures
 mod Ranks
 mod RoundAxes
