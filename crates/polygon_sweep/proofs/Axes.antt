@@ -1,10 +1,16 @@
 -- The axes are directions of coprime numbers.
-use Rattle.std.proofs.Common.{◌≡◌, ◌⊎◌, inl, inr, ℤ, pos, ◌<ℤ◌, ◌≤ℤ◌, unsigned_abs, arith}
-use Rattle.std.specs.Int.{IsGcd}
+use Rattle.std.proofs.Common.{◌≡◌, ◌↔◌, ◌⊎◌, inl, inr, ℕ, suc, ℤ, pos, negsuc, ◌<ℤ◌, ◌≤ℤ◌, unsigned_abs, IsTrue, nat_eq, to_z, of_z, refl, ap, sym, ◌∙◌, arith}
+use Rattle.std.specs.Int.{IsGcd, w128}
 use Rattle.std.proofs.lemmas.Int.{ints}
+use Rattle.std.proofs.lemmas.Bool.Decides.{nat_tests}
 use Rattle.exact_algebra.proofs.Order.{at_most_or_above}
+use Rattle.corr_num.proofs.PrintedTerms.{narrow_returned}
+use Rattle.corr_num.specs.Narrow.{Narrow}
+use Rattle.plane_hull.specs.Belt as belt
+use Rattle.plane_hull.specs.declared.directions.Dir.{Dir}
+use Rattle.polygon_sweep.specs.Swept.{IsCoprime}
 use Rattle.polygon_sweep.specs.Turning.{IsAxis, TurnsFrom, cross}
-use Rattle.std.proofs.lemmas.Nat.Gcd.{dvd-zero}
+use Rattle.std.proofs.lemmas.Nat.Gcd.{dvd-zero, dvd_refl}
 use Rattle.std.proofs.Math.Nat.{le_of_dvd, one-dvd}
 
 pub first_axis : IsGcd 1 0 1
@@ -42,3 +48,47 @@ from_first_axis a b divisor b_low a_high b_high = record { left = left; no_axis 
     no_axis x y (inr (inl (x_is, y_is))) over = rw (x_is, y_is) (omega (arith, ints))
     no_axis x y (inr (inr (inl (x_is, y_is)))) over = rw (x_is, y_is) (omega (arith, ints))
     no_axis x y (inr (inr (inr (x_is, y_is)))) over = rw (x_is, y_is) (omega (arith, ints))
+
+unit_part : (c : ℤ) → (c ≡ pos 0 → ⊥) → IsGcd (unsigned_abs c) 0 1 → (c ≡ pos 1) ⊎ (c ≡ negsuc 0)
+unit_part (pos n) other divisor =
+    let low = le_of_dvd (omega arith) (divisor.2 n (dvd_refl n) (dvd-zero n)) in
+    let over : n ≡ 0 → ⊥ = λ e. other (ap pos e) in
+    inl (let one : n ≡ 1 = omega arith in ap pos one)
+unit_part (negsuc n) other divisor =
+    let low = le_of_dvd (omega arith) (divisor.2 (suc n) (dvd_refl (suc n)) (dvd-zero (suc n))) in
+    inr (let none : n ≡ 0 = omega arith in ap negsuc none)
+
+turned_divisor : (a b : ℕ) → IsGcd a b 1 → IsGcd b a 1
+turned_divisor a b divisor = (divisor.1, divisor.0, λ d left right. divisor.2 d right left)
+
+-- a direction of coprime numbers one of which is 0 is an axis
+pub upright : (dir : Dir) → IsCoprime dir → dir.a ≡ pos 0 → belt.IsAxis dir
+upright dir coprime none = by (unit_part dir.b (not_nothing dir.a dir.b coprime none) (turned_divisor 0 (unsigned_abs dir.b) (rw none at coprime)))
+  where
+    by : (dir.b ≡ pos 1) ⊎ (dir.b ≡ negsuc 0) → belt.IsAxis dir
+    by (inl e) = inr (inl (none, e))
+    by (inr e) = inr (inr (inr (none, e)))
+
+pub level : (dir : Dir) → IsCoprime dir → dir.b ≡ pos 0 → belt.IsAxis dir
+level dir coprime none = by (unit_part dir.a (λ e. not_nothing dir.a dir.b coprime e none) (rw none at coprime))
+  where
+    by : (dir.a ≡ pos 1) ⊎ (dir.a ≡ negsuc 0) → belt.IsAxis dir
+    by (inl e) = inl (e, none)
+    by (inr e) = inr (inr (inl (e, none)))
+
+pub part_nothing : (dir : Dir) → belt.IsAxis dir → (dir.a ≡ pos 0) ⊎ (dir.b ≡ pos 0)
+part_nothing dir (inl e) = inr e.1
+part_nothing dir (inr (inl e)) = inl e.0
+part_nothing dir (inr (inr (inl e))) = inr e.1
+part_nothing dir (inr (inr (inr e))) = inl e.0
+
+-- ---- a number's bits are 0 where it is
+
+pub bits_nothing : (a : ℤ) → Narrow a → of_z w128 a ≡ 0 → a ≡ pos 0
+bits_nothing a narrow none = sym (narrow_returned a narrow) ∙ ap (to_z w128) none
+
+pub nothing_bits : (a : ℤ) → a ≡ pos 0 → of_z w128 a ≡ 0
+nothing_bits a e = rw e refl
+
+pub reads_nothing : (a : ℤ) → Narrow a → IsTrue (nat_eq (of_z w128 a) 0) ↔ (a ≡ pos 0)
+reads_nothing a narrow = (λ zero. bits_nothing a narrow (grind (arith, nat_tests, zero)), λ none. let zero = nothing_bits a none in grind (arith, nat_tests, zero))

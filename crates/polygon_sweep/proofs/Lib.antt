@@ -1,4 +1,5 @@
 mod Angles
+mod Arriving
 mod Axes
 mod BasicValues
 mod Certifying
@@ -9,10 +10,12 @@ mod Greater
 mod Growing
 mod Leading
 mod Mixtures
+mod Parting
 mod Ranks
 mod RoundAxes
 mod RoundBelt
 mod RoundCorners
 mod RoundLists
 mod RoundTurns
+mod Rounds
 mod Shown

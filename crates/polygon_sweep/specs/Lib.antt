@@ -1,3 +1,4 @@
 pub mod Round
 pub mod Swept
 pub mod Turning
+pub mod Turns

@@ -132,6 +132,7 @@ pub fn side_at<T: Tableau>(
     requires coprime { IsCoprime dir }
     requires bounding { IsBounding (T.content table.now) (length lp.now.rows) lp.now.cols dir }
     ensures side { IfOk result (IsSideOf lp.now) }
+    ensures direction { IfOk result (λ side. side.dir ≡ dir) }
     ensures number { IfOk result (λ side. side.corner ≡ corner) }
     ensures point { IfOk result (λ side. (found : SweptCorner) → IsProgram lp.now → Reaches (T.content table.now) (length lp.now.rows) (lp.now.cols + length lp.now.rows) found → IsPointOf side found) }
 {

@@ -1,4 +1,4 @@
-ghost use Rattle.std.specs.Prelude.{◌≡◌, ◌↔◌, ℕ, ◌<◌, OnOk, IfOk, IfErr, IsTrue, Some, length, slice_get};
+ghost use Rattle.std.specs.Prelude.{◌≡◌, ◌↔◌, ℕ, ◌+◌, ◌<◌, [], ◌∷◌, ◌++◌, OnOk, IfOk, IfErr, IsTrue, Some, length, slice_get};
 ghost use Rattle.lp_form.specs.Program.{LpView};
 ghost use Rattle.lp_form.specs.Solutions.{HasBoundedPayoffs};
 ghost use Rattle.bland_simplex.specs.Improving.{IsOptimal};
@@ -7,6 +7,8 @@ ghost use Rattle.bland_simplex.specs.Ready.{IsReady};
 ghost use Rattle.bland_simplex.specs.Steps.{IsTurning, StepsEnd, StepsLead};
 ghost use Rattle.polygon_sweep.specs.Swept.{IsAt, IsBounding, IsCoprime, IsCornerOf, IsGrown, IsSideAmong, IsSwept};
 ghost use Rattle.polygon_sweep.specs.Turning.{IsFullTurn};
+ghost use Rattle.polygon_sweep.specs.Turns.{Arrives, Closes, HasBegun, Turns};
+ghost use Rattle.plane_hull.specs.Belt.{IsAxis};
 
 use crate::bearings::next_direction;
 use crate::corners::{CornerList, Swept, SweptCorner};
@@ -17,7 +19,10 @@ use lp_form::Lp;
 use plane_hull::{Dir, SideList, SideRow};
 use std::alloc::{AllocError as NoMemory, Global};
 
-fn is_axis(dir: &Dir) -> bool {
+fn is_axis(dir: &Dir) -> bool
+    requires { IsCoprime dir.now }
+    ensures { IsTrue result ↔ IsAxis dir.now }
+{
     dir.a == 0 || dir.b == 0
 }
 
@@ -34,6 +39,7 @@ fn begin<T: Tableau>(alloc: Global, lp: &Lp, table: &T, dir: Dir) -> Result<Swep
     requires bounding { IsBounding (T.content table.now) (length lp.now.rows) lp.now.cols dir }
     ensures begun { IfOk result (IsSwept lp.now) }
     ensures at { IfOk result (λ swept. IsAt lp.now (T.content table.now) swept.corners 0) }
+    ensures alone { IfOk result (HasBegun dir) }
 {
     let mut corners = CornerList::new(alloc);
     corners.push(corner_at(alloc, lp, table)?)?;
@@ -44,6 +50,9 @@ fn begin<T: Tableau>(alloc: Global, lp: &Lp, table: &T, dir: Dir) -> Result<Swep
 
 fn add_corner(swept: &mut Swept, corner: SweptCorner) -> Result<usize, NoMemory>
     ensures last { IfOk result (λ k. slice_get swept.new.corners k ≡ Some corner) }
+    ensures number { IfOk result (λ k. k ≡ length swept.old.corners) }
+    ensures count { OnOk result (length swept.new.corners ≡ length swept.old.corners + 1) }
+    ensures sides { OnOk result (swept.new.sides ≡ swept.old.sides) }
     ensures grown { OnOk result (IsGrown swept.old.corners swept.new.corners) }
     ensures kept { OnOk result ((lp : LpView) → IsSwept lp swept.old → IsCornerOf lp corner → IsSwept lp swept.new) }
 {
@@ -54,6 +63,7 @@ fn add_corner(swept: &mut Swept, corner: SweptCorner) -> Result<usize, NoMemory>
 
 fn add_side(swept: &mut Swept, side: SideRow) -> Result<(), NoMemory>
     ensures corners { OnOk result (swept.new.corners ≡ swept.old.corners) }
+    ensures added { OnOk result (swept.new.sides ≡ swept.old.sides ++ side ∷ []) }
     ensures kept { OnOk result ((lp : LpView) → IsSwept lp swept.old → IsSideAmong lp swept.old.corners side → IsSwept lp swept.new) }
 {
     swept.sides.push(side)?;
@@ -74,6 +84,7 @@ fn arrive<T: Tableau>(
     ensures grown { OnOk result (IsGrown swept.old.corners swept.new.corners) }
     ensures reached { IfOk result (IsAt lp.now (T.content table.now) swept.new.corners) }
     ensures after { OnOk result (IsSwept lp.now swept.new) }
+    ensures arrives { IfOk result (Arrives swept.old swept.new present) }
 {
     let shape = Shape::of(lp);
     if reaches(table, shape, swept.corners.at(present)) {
@@ -109,6 +120,8 @@ fn turn<T: Tableau>(
     ensures end { IfErr result (StepsEnd (IsTurning lp.now dir) (T.content table.old) (T.content table.new)) }
     ensures reached { IfOk result (IsAt lp.now (T.content table.new) swept.new.corners) }
     ensures after { OnOk result (IsSwept lp.now swept.new) }
+    ensures grown { OnOk result (IsGrown swept.old.corners swept.new.corners) }
+    ensures turns { IfOk result (Turns dir swept.old swept.new present) }
 {
     let side = side_at(alloc, lp, table, dir, present)?;
     best(lp, table, &dir)?;
@@ -138,7 +151,8 @@ fn close<T: Tableau>(
     requires bounding { IsBounding (T.content table.now) (length lp.now.rows) lp.now.cols dir }
     requires present { IsAt lp.now (T.content table.now) swept.corners present }
     requires before { IsSwept lp.now swept }
-    ensures { IfOk result (IsSwept lp.now) }
+    ensures after { IfOk result (IsSwept lp.now) }
+    ensures closes { IfOk result (λ closed. Closes dir swept closed present) }
 {
     if present == 0 {
         return Ok(swept);
