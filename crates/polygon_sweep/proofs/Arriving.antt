@@ -1,5 +1,5 @@
 -- A turn from what the corner that was reached is.
-use Rattle.std.proofs.Common.{◌≡◌, ℕ, ◌+◌, ◌<◌, List, [], ◌∷◌, ◌++◌, length, refl, sym, ap, subst, ◌∙◌, arith}
+use Rattle.std.proofs.Common.{◌≡◌, ℕ, ◌<◌, [], ◌∷◌, ◌++◌, length, sym, ap, subst, ◌∙◌, arith}
 use Rattle.plane_hull.specs.declared.directions.Dir.{Dir}
 use Rattle.plane_hull.specs.declared.sides.SideRow.{SideRow}
 use Rattle.polygon_sweep.specs.declared.corners.Swept.{Swept}

@@ -63,7 +63,8 @@ turned_divisor a b divisor = (divisor.1, divisor.0, λ d left right. divisor.2 d
 
 -- a direction of coprime numbers one of which is 0 is an axis
 pub upright : (dir : Dir) → IsCoprime dir → dir.a ≡ pos 0 → belt.IsAxis dir
-upright dir coprime none = by (unit_part dir.b (not_nothing dir.a dir.b coprime none) (turned_divisor 0 (unsigned_abs dir.b) (rw none at coprime)))
+upright dir coprime none = by (unit_part dir.b (not_nothing dir.a dir.b coprime none)
+    (turned_divisor 0 (unsigned_abs dir.b) (rw none at coprime)))
   where
     by : (dir.b ≡ pos 1) ⊎ (dir.b ≡ negsuc 0) → belt.IsAxis dir
     by (inl e) = inr (inl (none, e))
@@ -91,4 +92,7 @@ pub nothing_bits : (a : ℤ) → a ≡ pos 0 → of_z w128 a ≡ 0
 nothing_bits a e = rw e refl
 
 pub reads_nothing : (a : ℤ) → Narrow a → IsTrue (nat_eq (of_z w128 a) 0) ↔ (a ≡ pos 0)
-reads_nothing a narrow = (λ zero. bits_nothing a narrow (grind (arith, nat_tests, zero)), λ none. let zero = nothing_bits a none in grind (arith, nat_tests, zero))
+reads_nothing a narrow = (
+  λ zero. bits_nothing a narrow (grind (arith, nat_tests, zero)),
+  λ none. let zero = nothing_bits a none in grind (arith, nat_tests, zero),
+)

@@ -54,7 +54,8 @@ module _ (lp : LpView) where
       two_of : (c : SweptCorner) → pays_left dir c ≡ c.two
       two_of c = two_alone dir.a dir.b c.one c.two right.0 right.1
 
-  level_of : (a b p q f r s g : ℤ) → ((a *ℤ r +ℤ b *ℤ s) *ℤ f) ≤ℤ ((a *ℤ p +ℤ b *ℤ q) *ℤ g) → ((a *ℤ p +ℤ b *ℤ q) *ℤ g) ≤ℤ ((a *ℤ r +ℤ b *ℤ s) *ℤ f)
+  level_of : (a b p q f r s g : ℤ) → ((a *ℤ r +ℤ b *ℤ s) *ℤ f) ≤ℤ ((a *ℤ p +ℤ b *ℤ q) *ℤ g)
+      → ((a *ℤ p +ℤ b *ℤ q) *ℤ g) ≤ℤ ((a *ℤ r +ℤ b *ℤ s) *ℤ f)
       → a *ℤ (r *ℤ f -ℤ p *ℤ g) +ℤ b *ℤ (s *ℤ f -ℤ q *ℤ g) ≡ pos 0
   level_of a b p q f r s g low high = let same : (a *ℤ r +ℤ b *ℤ s) *ℤ f ≡ (a *ℤ p +ℤ b *ℤ q) *ℤ g = omega (arith, ints) in
       let given = simp ring_laws at same in simp ring_laws (omega (arith, linear))

@@ -17,5 +17,6 @@ mod RoundBelt
 mod RoundCorners
 mod RoundLists
 mod RoundTurns
+mod Returning
 mod Rounds
 mod Shown

@@ -1,5 +1,5 @@
 -- What each part of a sweep does to the corners and sides that were swept so far.
-use Rattle.std.specs.Prelude.{◌≡◌, ℕ, ◌+◌, ◌<◌, List, [], ◌∷◌, ◌++◌, length}
+use Rattle.std.specs.Prelude.{◌≡◌, ℕ, ◌+◌, ◌<◌, [], ◌∷◌, ◌++◌, length}
 use Rattle.plane_hull.specs.Belt.{IsAxis}
 use Rattle.plane_hull.specs.declared.directions.Dir.{Dir}
 use Rattle.plane_hull.specs.declared.sides.SideRow.{SideRow}

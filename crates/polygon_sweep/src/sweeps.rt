@@ -5,6 +5,7 @@ ghost use Rattle.bland_simplex.specs.Improving.{IsOptimal};
 ghost use Rattle.bland_simplex.specs.Reachable.{IsLeftWide, MayBeginAt};
 ghost use Rattle.bland_simplex.specs.Ready.{IsReady};
 ghost use Rattle.bland_simplex.specs.Steps.{IsTurning, StepsEnd, StepsLead};
+ghost use Rattle.polygon_sweep.specs.Round.{AreApart, GoneRound};
 ghost use Rattle.polygon_sweep.specs.Swept.{IsAt, IsBounding, IsCoprime, IsCornerOf, IsGrown, IsSideAmong, IsSwept};
 ghost use Rattle.polygon_sweep.specs.Turning.{IsFullTurn};
 ghost use Rattle.polygon_sweep.specs.Turns.{Arrives, Closes, HasBegun, Turns};
@@ -170,6 +171,7 @@ pub fn sweep<T: Tableau>(alloc: Global, lp: &Lp, table: &mut T) -> Result<Swept,
     requires ready { IsReady lp.now (T.content table.old) }
     requires bounded { HasBoundedPayoffs lp.now }
     ensures swept { IfOk result (IsSwept lp.now) }
+    ensures round { IfOk result (λ swept. GoneRound (AreApart swept.corners) (length swept.corners) swept.sides) }
     ensures wide { IfErr result (λ end. MayBeginAt lp.now (T.content table.old) → IsLeftWide lp.now (T.content table.new) end) }
 {
     let shape = Shape::of(lp);

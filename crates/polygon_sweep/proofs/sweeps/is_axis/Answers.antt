@@ -13,5 +13,6 @@ pub returns-else-dir-eq0 : goal.returns-else-dir-eq0
 returns-else-dir-eq0 c =
     let dir = c.args.dir.now in (
       λ zero. level dir c.requires ((reads_nothing dir.b dir.b_narrow).0 zero),
-      λ axis. (reads_nothing dir.b dir.b_narrow).1 (⊎_elim (λ none. absurd (c.if-dir-eq0.false (nothing_bits dir.a none))) (λ none. none) (part_nothing dir axis)),
+      λ axis. (reads_nothing dir.b dir.b_narrow).1
+          (⊎_elim (λ none. absurd (c.if-dir-eq0.false (nothing_bits dir.a none))) (λ none. none) (part_nothing dir axis)),
     )

@@ -44,8 +44,8 @@ side_at-requires-2-clause-bounding g c = λ col l. stays_over _ (λ low. c.in_ok
 pub returns-then-reached-present-2-clause-turns : goal.returns-then-reached-present-2-clause-turns
 returns-then-reached-present-2-clause-turns g c =
     let within = slice_get_within _ _ _ c.requires.present.at in
-    let same = nothing_added c.args.swept.now c.arrive.new.swept c.args.present c.in_ok-reached.reached c.in_ok-reached.ensures.arrives within
-    c.if-reached-present-2.true in
+    let same = nothing_added c.args.swept.now c.arrive.new.swept c.args.present c.in_ok-reached.reached
+    c.in_ok-reached.ensures.arrives within c.if-reached-present-2.true in
     let axis : IsAxis c.args.dir = elim c.else-reached-present.branch [
       | else-reached-present-via-then-reached-present+else-not-is_axis w ↦ w.is_axis.ensures.0 w.if-not-is_axis.false
       | else-reached-present-via-else-reached-present w ↦ absurd (w.if-reached-present.false c.if-reached-present-2.true)
@@ -59,8 +59,8 @@ returns-clause-grown g c = λ number corner there.
     rw (c.in_ok-add_side-2.ensures.corners, c.in_ok-add_side.ensures.corners) (c.in_ok-reached.ensures.grown number corner there)
 
 pub returns-clause-turns : goal.returns-clause-turns
-returns-clause-turns g c = edge_added c.args.swept.now c.arrive.new.swept c.args.present c.in_ok-reached.reached c.args.dir _ c.in_ok-side.side
-    c.in_ok-side_at.field-0 c.in_ok-reached.ensures.arrives c.if-reached-present-2.false
+returns-clause-turns g c = edge_added c.args.swept.now c.arrive.new.swept c.args.present c.in_ok-reached.reached c.args.dir _
+    c.in_ok-side.side c.in_ok-side_at.field-0 c.in_ok-reached.ensures.arrives c.if-reached-present-2.false
     (c.in_ok-add_side-2.ensures.corners ∙ c.in_ok-add_side.ensures.corners)
     (c.in_ok-add_side-2.ensures.added ∙ (ap (λ list. list ++ c.in_ok-side_at.field-0 ∷ []) c.in_ok-add_side.ensures.added
     ∙ append_assoc c.arrive.new.swept.sides (c.in_ok-side.side ∷ []) (c.in_ok-side_at.field-0 ∷ [])))
