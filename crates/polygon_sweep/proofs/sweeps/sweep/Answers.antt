@@ -80,10 +80,12 @@ loop-shape-preserved g c =
           c.in_ok-present.present c.in_ok-present.ensures.turns
           (never_left c.args.lp.now table new next corners c.loop-shape.present c.in_ok-present.present
           c.next_direction-next.ensures.coprime c.loop-shape.invariant.0 bounding here
-          c.in_ok-present.ensures.ready c.in_ok-present.ensures.optimal c.in_ok-present.ensures.reached c.in_ok-present.ensures.after.corners first)
+          c.in_ok-present.ensures.ready c.in_ok-present.ensures.optimal
+          c.in_ok-present.ensures.reached c.in_ok-present.ensures.after.corners first)
           (met_below c.args.lp.now table new next corners c.loop-shape.present c.in_ok-present.present
           c.next_direction-next.ensures.coprime c.loop-shape.invariant.0 bounding here
-          c.in_ok-present.ensures.ready c.in_ok-present.ensures.optimal c.in_ok-present.ensures.reached c.in_ok-present.ensures.after.corners first short.short),
+          c.in_ok-present.ensures.ready c.in_ok-present.ensures.optimal
+          c.in_ok-present.ensures.reached c.in_ok-present.ensures.after.corners first short.short),
     )
 
 pub loop-shape-smaller : goal.loop-shape-smaller
