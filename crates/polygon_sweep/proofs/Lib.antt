@@ -13,8 +13,8 @@ mod Mixtures
 mod Parting
 mod Ranks
 mod RoundAxes
-mod RoundBelt
-mod RoundCorners
+pub mod RoundBelt
+pub mod RoundCorners
 mod RoundLists
 mod RoundTurns
 mod Returning
