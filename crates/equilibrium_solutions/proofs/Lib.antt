@@ -28,6 +28,7 @@ pub mod SolutionValues
 pub mod Solving
 pub mod Spreading
 pub mod SumRows
+pub mod SumsThere
 pub mod SumsTogether
 pub mod Telescoping
 pub mod TestedSums

@@ -1,16 +1,18 @@
--- A plan that is reduced by the tree is reduced by the numbers of sequences.
-use Rattle.std.proofs.Common.{◌≡◌, ◌↔◌, ℕ, ◌<◌, true, List, All, length, Option, Some, slice_get, refl, sym, ◌∙◌, arith}
+-- A plan is reduced by the tree exactly where it is reduced by the numbers of sequences.
+use Rattle.std.proofs.Common.{◌≡◌, ◌↔◌, ℕ, ◌<◌, Bool, true, false, List, All, length, Option, Some, None, slice_get, refl, sym, ◌∙◌, arith}
 use Rattle.std.proofs.lemmas.Option.{slice_get_within}
 use Rattle.corr_game.specs.declared.sides.Side.{Side}
 use Rattle.corr_game.specs.declared.sides.Side.TheVariants.{One, Two}
 use Rattle.corr_game.specs.Game.{GameView, IsGame, sets_of}
+use Rattle.corr_game.specs.Plan.{IsPlan}
 use Rattle.tree_recall.specs.OwnSequence.{HasRecall}
 use Rattle.sequences.specs.declared.places.Place.{Place}
 use Rattle.sequences.specs.Number.{Plays, side_of}
+use Rattle.sequences.proofs.Adding.{within}
 use Rattle.connected_pairs.specs.Connected.{IsPairs, IsPairsOf, PairsView}
 use Rattle.equilibrium.specs.Distribution.{Entry, IsEntry}
 use Rattle.equilibrium.specs.Reach.{leads}
-use Rattle.equilibrium.specs.ReducedPlan.{IsReduced}
+use Rattle.equilibrium.specs.ReducedPlan.{IsReduced, names_some}
 use Rattle.equilibrium.proofs.Nesting.{named_one}
 use Rattle.plan_decompose.specs.Reduced.{IsReduced as IsReducedBy}
 use Rattle.equilibrium_solutions.proofs.Numbers.{set_plays}
@@ -44,6 +46,31 @@ module _ (g : GameView) (rules : IsGame g) (p : PairsView) (pairs : IsPairs p) (
             (leads_plays side plan set place at).0
             (sym (is.where_led set (inside set place at)) ∙ rw named refl);
       }
+
+  -- and the other way round
+  pub reduced_of : (side : Side) (plan : List (Option ℕ)) → IsPlan side g plan → IsReducedBy (side_of side p.seqs) plan
+      → IsReduced side g plan
+  reduced_of side plan whole is = record { is_plan = whole; where_led = λ set low. led set low (leads side g plan set) refl }
+    where
+      there : (set : ℕ) → set < length (sets_of side g) → (place : Place) × (slice_get (side_of side p.seqs).places set ≡ Some place)
+      there set low = within (side_of side p.seqs).places set (omega (arith, (of.sides side).per_set, low))
+
+      none_named : (set : ℕ) → set < length (sets_of side g) → leads side g plan set ≡ false → (named : Option (Option ℕ))
+          → slice_get plan set ≡ named → names_some named ≡ false
+      none_named set low away None at = refl
+      none_named set low away (Some None) at = refl
+      none_named set low away (Some (Some action)) at =
+          let place = there set low in
+          let here = (leads_plays side plan set place.0 place.1).1 (is.none_else set action place.0 place.1 at) in
+          absurd (cc)
+
+      led : (set : ℕ) → set < length (sets_of side g) → (leading : Bool) → leads side g plan set ≡ leading
+          → names_some (slice_get plan set) ≡ leading
+      led set low true here =
+          let place = there set low in
+          let named = is.each set place.0 place.1 ((leads_plays side plan set place.0 place.1).0 here) in
+          rw named.1 refl
+      led set low false away = none_named set low away (slice_get plan set) refl
 
   entry_by : (entry : Entry) → IsEntry g entry → IsReducedEntry g p.seqs entry
   entry_by entry is = record {

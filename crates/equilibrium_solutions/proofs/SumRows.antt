@@ -37,7 +37,7 @@ listed-at (suc n) x zero h = refl
 listed-at (suc n) x (suc k) h = listed-at n (λ j. x (suc j)) k (omega arith)
 
 -- numbers that are there one by one, as a function
-chosen : (n : ℕ) (P : ℕ → ℤ → Type 0) → ((k : ℕ) → k < n → (z : ℤ) × P k z) → (f : ℕ → ℤ) × ((k : ℕ) → k < n → P k (f k))
+pub chosen : (n : ℕ) (P : ℕ → ℤ → Type 0) → ((k : ℕ) → k < n → (z : ℤ) × P k z) → (f : ℕ → ℤ) × ((k : ℕ) → k < n → P k (f k))
 chosen n P each = (λ k. pick k (cases_lt k n), λ k h. is k (cases_lt k n) h)
   where
     pick : (k : ℕ) → (k < n) ⊎ (n ≤ k) → ℤ
