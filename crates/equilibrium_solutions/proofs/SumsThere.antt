@@ -1,5 +1,5 @@
--- Each list has column sums: a sequence is the number of some moves, a plan plays it where it names them all, and the weights of the entries
--- whose plans do so sum up. A solution with these sums has the list's total.
+-- Each list has column sums: a sequence is the number of some moves, a plan plays it where it names them all, and the weights of the
+-- entries whose plans do so sum up. A solution with these sums has the list's total.
 use Rattle.std.proofs.Common.{◌≡◌, ◌↔◌, ℕ, zero, suc, ◌+◌, ◌<◌, ◌≤◌, List, [], ◌∷◌, ◌&&◌, All, Some, length, slice_get, refl}
 use Rattle.std.proofs.Common.{sym, ap, ◌∙◌, Bool, ℤ, pos, ◌*ℤ◌, cond, arith, subst}
 use Rattle.std.proofs.lemmas.List.{get_or_append_left}
@@ -81,7 +81,8 @@ lists_have_sums g p rules pairs of list =
 joined_total : (base more : LpView) (t : ℤ) (x : ℕ → ℤ) → 0 < length base.rows → IsProgram (joined base more)
     → IsSolution (joined base more) t x → sum_to more.cols (λ k. coefficient base 0 k *ℤ x k) ≡ t
 joined_total base more t x some program solution =
-    let alike = ap (λ (e : List Coefficient). sum_to more.cols (λ k. value_at e k *ℤ x k)) (get_or_append_left base.rows more.rows [] 0 some) in
+    let first = get_or_append_left base.rows more.rows [] 0 some in
+    let alike = ap (λ (e : List Coefficient). sum_to more.cols (λ k. value_at e k *ℤ x k)) first in
     sym alike ∙ solution.meets 0 program.a_row ∙ ap (λ (c : ℤ). t *ℤ c) program.one ∙ *ℤ-one t
 
 pub solution_total : (notion : Notion) (g : GameView) (p : PairsView) (lp : LpView) (list : List Entry) (t : ℤ) (x : ℕ → ℤ) → IsGame g

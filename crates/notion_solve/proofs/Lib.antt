@@ -4,6 +4,9 @@ mod Inside
 mod Joined
 mod Marking
 mod Points
+mod RightCorners
+mod RightEmpty
 mod Rightness
+mod Views
 mod Weighing
 mod WideBasis
