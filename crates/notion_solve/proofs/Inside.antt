@@ -57,7 +57,7 @@ no_further a b den total p q f h s t on od tn td over s_over t_over od_over td_o
     weakly h = omega (arith, ints)
 
 -- two whole numbers above 0 are at least 1
-over_one : {n : ℤ} → pos 1 ≤ℤ n → pos 0 <ℤ n
+pub over_one : {n : ℤ} → pos 1 ≤ℤ n → pos 0 <ℤ n
 over_one h = omega (arith, ints)
 
 pub inside : (g : GameView) (lp : LpView) (corners : List Corner) (side : SideRow) (total : ℤ) (x : ℕ → ℤ) → IsGame g → IsProgram lp → AreFractions (points_of corners)

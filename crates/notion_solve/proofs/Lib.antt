@@ -3,9 +3,11 @@ mod Cutting
 mod Inside
 mod Joined
 mod Marking
+mod MeansPaid
 mod Points
 mod RightCorners
 mod RightEmpty
+mod RightPolygons
 mod Rightness
 mod Views
 mod Weighing

@@ -1,19 +1,14 @@
 -- A corner that a solution reaches is right: its pairs are entries whose column sums the solution has, so they are an equilibrium list of
 -- the corner's total, which is paid what the solution pays.
-use Rattle.std.proofs.Common.{◌≡◌, ℕ, List, All, ℤ, pos, ◌≤ℤ◌, ◌<ℤ◌, refl, sym, subst, arith}
-use Rattle.std.proofs.lemmas.Int.{ints}
+use Rattle.std.proofs.Common.{◌≡◌, List, All, ℤ, pos, ◌<ℤ◌, refl, subst}
 use Rattle.corr_game.specs.declared.notions.Notion.{Notion}
-use Rattle.corr_game.specs.declared.sides.Side.{Side}
 use Rattle.corr_game.specs.declared.sides.Side.TheVariants.{One, Two}
 use Rattle.corr_game.specs.Game.{GameView, IsGame}
 use Rattle.corr_num.specs.Narrow.{Narrow}
 use Rattle.connected_pairs.specs.Connected.{IsPairs, IsPairsOf, PairsView}
 use Rattle.lp_form.specs.Program.{LpView}
-use Rattle.lp_form.specs.Solutions.{paid}
-use Rattle.equilibrium.specs.Deviation.{following}
 use Rattle.equilibrium.specs.Distribution.{Entry, IsEntry, entries_of, total}
 use Rattle.plan_polytope.specs.NotionProgram.{IsProgramOf}
-use Rattle.report_form.specs.Certified.{IsPointIn}
 use Rattle.report_form.specs.declared.reports.Corner.{Corner}
 use Rattle.equilibrium_solutions.specs.ColumnSums.{AreColumnSums}
 use Rattle.equilibrium_solutions.proofs.Same.{pays, same}

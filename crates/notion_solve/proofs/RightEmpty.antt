@@ -1,12 +1,11 @@
 -- Where a program is shown to have no solution, no list is an equilibrium list: its column sums would extend to one.
-use Rattle.std.proofs.Common.{◌≡◌, List, All, ℤ}
+use Rattle.std.proofs.Common.{List, All, ℤ}
 use Rattle.corr_game.specs.declared.notions.Notion.{Notion}
 use Rattle.corr_game.specs.Game.{GameView, IsGame}
 use Rattle.corr_num.specs.Narrow.{Narrow}
 use Rattle.connected_pairs.specs.Connected.{IsPairs, IsPairsOf, PairsView}
 use Rattle.bland_simplex.specs.Multipliers.{HasNarrowColumns}
-use Rattle.equilibrium.specs.Distribution.{Entry, total}
-use Rattle.equilibrium.specs.Equilibrium.{IsEquilibriumList, no_slack}
+use Rattle.equilibrium.specs.Distribution.{total}
 use Rattle.lp_form.proofs.Certified.{shown_empty}
 use Rattle.lp_form.specs.Certificates.{ShowEmpty}
 use Rattle.lp_form.specs.Program.{LpView}

@@ -1,6 +1,5 @@
 -- What right blocks have in common: a right polygon has corners, and what equilibrium lists pay is a mixture of them.
-use Rattle.std.proofs.Common.{◌≡◌, ◌↔◌, ℕ, ◌<◌, List, All, Some, length, option_map, slice_get, subst, ◌∙◌, ap, ℤ, pos, ◌≤ℤ◌, ◌<ℤ◌, arith}
-use Rattle.std.proofs.lemmas.Int.{ints}
+use Rattle.std.proofs.Common.{◌≡◌, ◌↔◌, ℕ, ◌<◌, List, All, Some, length, option_map, slice_get, subst, ◌∙◌, ap, ℤ, pos, ◌<ℤ◌, arith}
 use Rattle.std.proofs.lemmas.Option.{get_or_from_slice_get, slice_get-map, slice_get_within}
 use Rattle.corr_game.specs.declared.notions.Notion.{Notion}
 use Rattle.corr_game.specs.declared.sides.Side.TheVariants.{One, Two}
@@ -14,29 +13,27 @@ use Rattle.plane_hull.specs.Mixture.{IsMixture}
 use Rattle.plane_hull.specs.StrictPolygon.{AreCornersInside}
 use Rattle.report_form.specs.declared.reports.Corner.{Corner}
 use Rattle.report_form.specs.Points.{points_of}
+use Rattle.notion_solve.proofs.Inside.{over_one}
 use Rattle.notion_solve.specs.Right.{IsPaid, IsRightCorner, IsRightEmpty, IsRightPolygon}
 use Rattle.notion_solve.specs.Shown.{IsShownSide}
 
--- two whole numbers above 0 are at least 1
-over_one : {n : ℤ} → pos 1 ≤ℤ n → pos 0 <ℤ n
-over_one h = omega (arith, ints)
-
-element : {X : Type 0} (P : X → Type 0) (xs : List X) (k : ℕ) (x : X) → All P xs → slice_get xs k ≡ Some x → P x
+pub element : {X : Type 0} (P : X → Type 0) (xs : List X) (k : ℕ) (x : X) → All P xs → slice_get xs k ≡ Some x → P x
 element P xs k x all at = subst (λ y. P y) (get_or_from_slice_get xs k x x at) (all k x (slice_get_within xs k x at))
+
+pub point_there : (corners : List Corner) (k : ℕ) (corner : Corner) → slice_get corners k ≡ Some corner
+    → slice_get (points_of corners) k ≡ Some corner.point
+point_there corners k corner at =
+    slice_get-map (λ (c : Corner). c.point) corners k ∙ ap (λ c. option_map (λ (corner : Corner). corner.point) c) at
 
 module _ (notion : Notion) (g : GameView) (p : PairsView) (lp : LpView) (corners : List Corner) (sides : List SideRow)
     (right : IsRightPolygon notion g p lp corners sides) where
   side_at : (k : ℕ) (side : SideRow) → slice_get sides k ≡ Some side → IsShownSide g lp corners side
   side_at k side at = element (IsShownSide g lp corners) sides k side right.each_side at
 
-  point_there : (k : ℕ) (corner : Corner) → slice_get corners k ≡ Some corner → slice_get (points_of corners) k ≡ Some corner.point
-  point_there k corner at =
-      slice_get-map (λ (c : Corner). c.point) corners k ∙ ap (λ c. option_map (λ (corner : Corner). corner.point) c) at
-
   stands : (k : ℕ) (side : SideRow) → slice_get sides k ≡ Some side → side.corner < length (points_of corners)
   stands k side at =
       let certified = (side_at k side at).certified in
-      slice_get_within (points_of corners) side.corner certified.corner.point (point_there side.corner certified.corner certified.at)
+      slice_get_within (points_of corners) side.corner certified.corner.point (point_there corners side.corner certified.corner certified.at)
 
   -- the side of direction (0, 1) stands at some corner
   pub a_corner : (corner : Corner) × IsRightCorner notion g p corner
