@@ -14,6 +14,7 @@ use Rattle.equilibrium.specs.ReachedPoint.{IsReached}
 use Rattle.lp_form.specs.Certificates.{ShowEmpty}
 use Rattle.lp_form.specs.Program.{LpView}
 use Rattle.plane_hull.specs.declared.sides.SideRow.{SideRow}
+use Rattle.plane_hull.specs.Belt.{IsBelt}
 use Rattle.plane_hull.specs.Inside.{IsInside, PlanePoint}
 use Rattle.plane_hull.specs.StrictPolygon.{AreFractions, IsStrictPolygon}
 use Rattle.bland_simplex.specs.Multipliers.{HasNarrowColumns}
@@ -70,3 +71,9 @@ IsRight notion g p lp (TooWide basis place) = IsWideBasis lp basis place
 -- a block in its ranges is right for the notion of a game
 abbrev pub IsRightFor : GameView → PairsView → Notion → Block → Type 0
 IsRightFor g p notion block = (lp : LpView) × IsProgramOf g p notion lp × IsBlock block × IsRight notion g p lp block
+
+-- the sides of a block with a polygon are a belt round its corners
+abbrev pub HasBelt : Block → Type 0
+HasBelt (Found corners sides) = IsBelt (points_of corners) sides
+HasBelt (Empty multipliers) = Unit {0}
+HasBelt (TooWide basis place) = Unit {0}

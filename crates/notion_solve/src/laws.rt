@@ -3,7 +3,7 @@ ghost use Rattle.std.specs.Prelude.{◌↔◌, ℕ, ℤ, List, pos, ◌<ℤ◌};
 ghost use Rattle.corr_game.specs.declared.notions.Notion.{Notion};
 ghost use Rattle.corr_game.specs.declared.sides.Side.TheVariants.{One, Two};
 ghost use Rattle.corr_game.specs.Game.{GameView, IsGame, scale_of};
-ghost use Rattle.connected_pairs.specs.Connected.{PairsView};
+ghost use Rattle.connected_pairs.specs.Connected.{IsPairs, IsPairsOf, PairsView};
 ghost use Rattle.lp_form.specs.Program.{IsProgram, LpView};
 ghost use Rattle.lp_form.specs.Solutions.{IsSolution};
 ghost use Rattle.plane_hull.specs.declared.sides.SideRow.{SideRow};
@@ -12,11 +12,14 @@ ghost use Rattle.plane_hull.specs.Mixture.{IsMixture};
 ghost use Rattle.plane_hull.specs.StrictPolygon.{AreFractions};
 ghost use Rattle.lp_form.specs.declared.places.Place.{Place};
 ghost use Rattle.bland_simplex.specs.Reachable.{NeverWide};
+ghost use Rattle.plan_polytope.specs.NotionProgram.{IsProgramOf};
+ghost use Rattle.report_form.specs.declared.reports.Block.{Block};
 ghost use Rattle.report_form.specs.declared.reports.Block.TheVariants.{Empty, Found, TooWide};
 ghost use Rattle.report_form.specs.declared.reports.Corner.{Corner};
 ghost use Rattle.report_form.specs.Points.{points_of};
+ghost use Rattle.report_form.specs.Ranges.{IsBlock};
 ghost use Rattle.notion_solve.specs.Paid.{point_paid};
-ghost use Rattle.notion_solve.specs.Right.{IsPaid, IsRight};
+ghost use Rattle.notion_solve.specs.Right.{HasBelt, IsPaid, IsRight};
 ghost use Rattle.notion_solve.specs.Shown.{IsShown};
 
 /// Whatever a solution of a program pays lies inside the sides of a polygon that is shown of it.
@@ -25,6 +28,12 @@ pub fn what_solutions_pay_lies_inside()
         → IsGame g → IsProgram lp → AreFractions (points_of corners) → IsShown g p lp (Found corners sides)
         → pos 0 <ℤ total → IsSolution lp total x
         → IsInside (scale_of One g) (scale_of Two g) (points_of corners) sides (point_paid g lp total x) }
+{}
+
+/// A block in its ranges that is shown of a notion's program is right, where the sides of a polygon are a belt.
+pub fn shown_blocks_are_right()
+    ensures { (notion : Notion) (g : GameView) (p : PairsView) (lp : LpView) (block : Block) → IsGame g → IsPairs p → IsPairsOf g p
+        → IsProgramOf g p notion lp → IsBlock block → IsShown g p lp block → HasBelt block → IsRight notion g p lp block }
 {}
 
 /// What equilibrium lists pay is exactly what is a mixture of a right polygon's corners.

@@ -15,5 +15,5 @@ mod wide;
 pub use blocks::solve;
 pub use laws::{
     a_right_polygon_is_not_empty, right_blocks_are_too_wide_by_a_tableau, right_polygons_are_one,
-    what_lists_pay_is_mixed_of_corners, what_solutions_pay_lies_inside,
+    shown_blocks_are_right, what_lists_pay_is_mixed_of_corners, what_solutions_pay_lies_inside,
 };
