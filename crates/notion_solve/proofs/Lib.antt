@@ -5,6 +5,7 @@ mod Joined
 mod Marking
 mod MeansPaid
 mod Points
+mod PointsApart
 mod RightBlocks
 mod RightCorners
 mod RightEmpty
