@@ -48,6 +48,7 @@ points_apart g swept corners rules fractions points j k apart alike =
     let lowest = fractions j one.point there in
     two_points (one_point g one.point a b rules lowest.0.positive lowest.1.positive first (rw same second))
 
+-- what is a belt round any points that differ where these swept corners do is one round the made corners' points
 pub made_belt : (g : GameView) (swept : List SweptCorner) (corners : List Corner) (sides : List SideRow) → IsGame g → All IsCorner corners
     → length corners ≡ length swept → ArePointsOf g swept corners
     → ((points : List Point) → length points ≡ length swept

@@ -33,7 +33,8 @@ module _ (notion : Notion) (g : GameView) (p : PairsView) (lp : LpView) (corners
   stands : (k : ℕ) (side : SideRow) → slice_get sides k ≡ Some side → side.corner < length (points_of corners)
   stands k side at =
       let certified = (side_at k side at).certified in
-      slice_get_within (points_of corners) side.corner certified.corner.point (point_there corners side.corner certified.corner certified.at)
+      slice_get_within (points_of corners) side.corner certified.corner.point
+      (point_there corners side.corner certified.corner certified.at)
 
   -- the side of direction (0, 1) stands at some corner
   pub a_corner : (corner : Corner) × IsRightCorner notion g p corner
