@@ -5,14 +5,15 @@ ghost use Rattle.bland_simplex.specs.Open.{IsProgram};
 ghost use Rattle.bland_simplex.specs.Reachable.{IsLeftWide};
 ghost use Rattle.int_tableau.specs.Content.{IsTableau};
 ghost use Rattle.int_tableau.specs.Start.{IsStart};
+ghost use Rattle.polygon_sweep.specs.Round.{AreApart, GoneRound};
 ghost use Rattle.polygon_sweep.specs.Swept.{IsSwept};
 ghost use Rattle.lp_form.specs.Program.{LpView};
 ghost use Rattle.lp_form.specs.Solutions.{HasBoundedPayoffs};
 ghost use Rattle.triangle_test.specs.Triangle.{HasNoTriangle};
 ghost use Rattle.notion_solve.specs.Outcome.{IsOutcome};
 ghost use Rattle.notion_solve.specs.Programs.{IsOverRows};
+ghost use Rattle.notion_solve.specs.Right.{HasBelt, IsRightFor};
 ghost use Rattle.notion_solve.specs.Shown.{IsShown, IsShownFor};
-ghost use Rattle.notion_solve.specs.Spread.{AreSpread};
 ghost use Rattle.report_form.specs.Ranges.{IsBlock};
 
 use crate::corners::corners_of;
@@ -56,8 +57,21 @@ pub fn solve(alloc: Global, game: &Game, pairs: &Pairs, notion: Notion) -> Resul
     requires no_triangle { HasNoTriangle pairs.now }
     requires size { (rows columns : ℕ) × HasSize game.now pairs.now notion rows columns × (rows ≤ 2048) × (columns ≤ 8192) }
     ensures ranges { IfOk result IsBlock }
-    ensures spread { IfOk result (AreSpread pairs.now) }
+    ensures right { IfOk result (IsRightFor game.now pairs.now notion) }
+{
+    let _ = (game.len(), pairs.len());
+    let block = shown(alloc, game, pairs, notion)?;
+    Ok(block)
+}
+
+/// A block with the solutions and multipliers that show it.
+fn shown(alloc: Global, game: &Game, pairs: &Pairs, notion: Notion) -> Result<Block, NoMemory>
+    requires whose { IsPairsOf game.now pairs.now }
+    requires no_triangle { HasNoTriangle pairs.now }
+    requires size { (rows columns : ℕ) × HasSize game.now pairs.now notion rows columns × (rows ≤ 2048) × (columns ≤ 8192) }
+    ensures ranges { IfOk result IsBlock }
     ensures shown { IfOk result (IsShownFor game.now pairs.now notion) }
+    ensures belt { IfOk result HasBelt }
 {
     let lp = program(alloc, game, pairs, notion)?;
     let mut table = Dense::start(alloc, &lp)?;
@@ -75,12 +89,13 @@ fn found(alloc: Global, game: &Game, pairs: &Pairs, swept: Swept) -> Result<Bloc
     requires no_triangle { HasNoTriangle pairs.now }
     requires few { length pairs.now.pairs ≤ 8192 }
     requires swept { (lp : LpView) × IsSwept lp swept × IsOverRows pairs.now lp }
+    requires round { GoneRound (AreApart swept.corners) (length swept.corners) swept.sides }
     ensures ranges { IfOk result IsBlock }
-    ensures spread { IfOk result (AreSpread pairs.now) }
     ensures shown { IfOk result (λ block. (lp : LpView) → IsProgram lp → IsSwept lp swept → IsShown game.now pairs.now lp block) }
+    ensures belt { IfOk result HasBelt }
 {
     let Swept { corners, sides } = swept;
-    let _ = sides.len();
+    let _ = (game.len(), sides.len());
     Ok(Block::Found {
         corners: corners_of(alloc, game, pairs, &corners)?,
         sides,

@@ -1,8 +1,7 @@
--- The basis that is listed is one at which the method is too wide.
-use Rattle.notion_solve.proofs.WideBasis.{wide_shown}
+-- What is shown of a notion's program is right.
+use Rattle.notion_solve.proofs.RightBlocks.{right_for}
 use Rattle.notion_solve.proofs.blocks.solve.Goals as goal
 
-pub returns-in-Err-Wide-clause-shown : goal.returns-in-Err-Wide-clause-shown
-returns-in-Err-Wide-clause-shown c = wide_shown c.args.game.now c.args.pairs.now c.args.notion c.in_ok-lp.lp _ c.in-Err-Wide.field-0
-    c.in-Err-Wide.place c.too_wide.result c.in_ok-lp.ensures.whose c.in-Err-Wide.field-0-is c.in-Err-Wide.ensures.wide
-    c.too_wide.ensures.names
+pub returns-clause-right : goal.returns-clause-right
+returns-clause-right c = right_for c.args.notion c.args.game.now c.args.pairs.now c.in_ok-block.block c.len.ensures.rules c.len-2.ensures.rules
+    c.requires.whose c.in_ok-block.ensures.ranges c.in_ok-block.ensures.shown c.in_ok-block.ensures.belt
