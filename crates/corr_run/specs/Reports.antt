@@ -5,7 +5,7 @@ use Rattle.corr_game.specs.declared.notions.Notion.{Notion}
 use Rattle.corr_game.specs.Game.{GameView}
 use Rattle.connected_pairs.specs.Connected.{PairsView}
 use Rattle.incentive_rows.specs.Size.{HasSize}
-use Rattle.notion_solve.specs.Shown.{IsShownFor}
+use Rattle.notion_solve.specs.Right.{IsRightFor}
 use Rattle.report_form.specs.declared.reports.NamedBlock.{NamedBlock}
 use Rattle.report_form.specs.Ranges.{IsBlock}
 use Rattle.command_words.specs.declared.commands.Notions.{Notions}
@@ -34,9 +34,9 @@ AreWhole blocks = All (λ (named : NamedBlock). IsBlock named.block) blocks
 abbrev pub AreBlocksOf : Notions → List NamedBlock → Type 0
 AreBlocksOf notions blocks = notions_of blocks ≡ selected notions
 
--- each block is shown of its notion's program
-abbrev pub AreShown : GameView → PairsView → List NamedBlock → Type 0
-AreShown g p blocks = All (λ (named : NamedBlock). IsShownFor g p named.notion named.block) blocks
+-- each block is right for its notion
+abbrev pub AreRight : GameView → PairsView → List NamedBlock → Type 0
+AreRight g p blocks = All (λ (named : NamedBlock). IsRightFor g p named.notion named.block) blocks
 
 -- the status of a report with these blocks
 abbrev pub HasStatus : List NamedBlock → Status → Type 0

@@ -8,10 +8,10 @@ use Rattle.corr_game.specs.Game.{GameView}
 use Rattle.report_form.specs.Ranges.{IsReport}
 use Rattle.report_form.specs.View.{ReportView}
 use Rattle.corr_run.specs.FirstRefusal.{IsGameFor}
-use Rattle.corr_run.specs.Reports.{AreBlocksOf, AreShown}
+use Rattle.corr_run.specs.Reports.{AreBlocksOf, AreRight}
 
 -- The bytes are refused for no reason. The report has their game's scales and a block for each selected notion, in
--- order, and each block is shown of its notion's program.
+-- order, and each block is right for its notion.
 pub record IsReportOn (notions : Notions) (bytes : List ℕ) (report : ReportView) : Type 0 where
   pub g : GameView
   pub p : PairsView
@@ -19,4 +19,4 @@ pub record IsReportOn (notions : Notions) (bytes : List ℕ) (report : ReportVie
   pub ranges : IsReport report
   pub scales : HasScales g report
   pub blocks : AreBlocksOf notions report.blocks
-  pub shown : AreShown g p report.blocks
+  pub right : AreRight g p report.blocks

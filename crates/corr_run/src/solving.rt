@@ -8,7 +8,7 @@ ghost use Rattle.report_form.specs.Ranges.{IsBlock, IsReport};
 ghost use Rattle.cert_check.specs.Scales.{HasScales};
 ghost use Rattle.corr_run.specs.FirstRefusal.{IsFirstRefusal, IsGameFor, IsOfSizes};
 ghost use Rattle.corr_run.specs.Refusals.{IfRefused};
-ghost use Rattle.corr_run.specs.Reports.{FitPrograms, AreBlocksOf, AreShown, AreWhole, notions_of};
+ghost use Rattle.corr_run.specs.Reports.{FitPrograms, AreBlocksOf, AreRight, AreWhole, notions_of};
 ghost use Rattle.corr_run.specs.SolvedReport.{IsReportOn};
 ghost use Rattle.command_words.specs.Selection.{SelectsSome, selected};
 
@@ -79,9 +79,9 @@ fn add_block(
     requires no_triangle { HasNoTriangle ready.now.pairs }
     requires size { FitPrograms ready.now.game ready.now.pairs (cond is_selected (notion ∷ []) []) }
     requires before { AreWhole blocks.old }
-    requires shown_before { AreShown ready.now.game ready.now.pairs blocks.old }
+    requires right_before { AreRight ready.now.game ready.now.pairs blocks.old }
     ensures whole { OnOk result (AreWhole blocks.new) }
-    ensures shown { OnOk result (AreShown ready.now.game ready.now.pairs blocks.new) }
+    ensures right { OnOk result (AreRight ready.now.game ready.now.pairs blocks.new) }
     ensures notions { OnOk result (notions_of blocks.new ≡ notions_of blocks.old ++ cond is_selected (notion ∷ []) []) }
 {
     if !is_selected {
@@ -98,7 +98,7 @@ fn blocks_of(alloc: Global, ready: &Ready, notions: Notions) -> Result<BlockList
     requires no_triangle { HasNoTriangle ready.now.pairs }
     requires sizes { FitPrograms ready.now.game ready.now.pairs (selected notions) }
     ensures whole { IfOk result AreWhole }
-    ensures shown { IfOk result (AreShown ready.now.game ready.now.pairs) }
+    ensures right { IfOk result (AreRight ready.now.game ready.now.pairs) }
     ensures notions { IfOk result (λ blocks. notions_of blocks ≡ selected notions) }
 {
     let mut blocks = BlockList::new(alloc);

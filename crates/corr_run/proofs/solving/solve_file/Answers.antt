@@ -9,7 +9,7 @@ returns-in_ok-blocks-in-Ok c = record {
   ranges = c.report_of.ensures.ranges;
   scales = c.report_of.ensures.scales;
   blocks = rw c.report_of.ensures.same c.in_ok-blocks-in-Ok.ensures.notions;
-  shown = rw c.report_of.ensures.same c.in_ok-blocks-in-Ok.ensures.shown;
+  right = rw c.report_of.ensures.same c.in_ok-blocks-in-Ok.ensures.right;
 }
 
 pub returns-in-Err-Refused : goal.returns-in-Err-Refused
