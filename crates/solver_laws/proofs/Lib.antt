@@ -1,0 +1,4 @@
+mod FirstPhase
+mod GreatestPayoffs
+mod OneStep
+mod StartLists

@@ -1,0 +1,24 @@
+//! Laws of definitions that stand in other crates: of the simplex method, of programs and certificates, and of the plain tests.
+//!
+//! They stand apart from those crates so that a law more proves none of them again. Each law is the clause of a function that does
+//! nothing.
+#![tactic(auto)]
+
+mod bases;
+mod first_phase;
+mod optima;
+
+pub use bases::{
+    bases_are_sets_of_columns, blands_rule_stops_at_an_optimum, blands_rule_takes_one_step,
+    program_rows_start_with_their_right_sides, programs_start_in_one_way,
+    start_lists_are_narrow_as_their_rows,
+};
+pub use first_phase::{
+    a_tableau_has_one_answer, answers_are_true, columns_lower_by_their_sums,
+    driven_where_none_drives_out, multipliers_are_one_list, open_tableaus_have_one_shape,
+    ready_tableaus_are_driven, stuck_phases_lower_no_more, stuck_tableaus_are_not_lowered,
+    the_start_has_ones_as_multipliers, the_start_is_open,
+};
+pub use optima::{
+    greatest_payoffs_are_one, left_turns_are_directions, the_right_pays_the_first_player,
+};
