@@ -1,4 +1,5 @@
 mod FirstPhase
 mod GreatestPayoffs
+mod OnePath
 mod OneStep
 mod StartLists

@@ -7,6 +7,7 @@
 mod bases;
 mod first_phase;
 mod optima;
+mod trees;
 
 pub use bases::{
     bases_are_sets_of_columns, blands_rule_stops_at_an_optimum, blands_rule_takes_one_step,
@@ -21,4 +22,9 @@ pub use first_phase::{
 };
 pub use optima::{
     greatest_payoffs_are_one, left_turns_are_directions, the_right_pays_the_first_player,
+};
+pub use trees::{
+    connected_sets_are_met, nodes_alike_to_one_are_alike, nodes_have_their_sets_sequence,
+    recall_is_one_sequence_a_set, relevant_sequences_go_back, sequences_at_a_node_are_relevant,
+    sets_are_met_from_above,
 };
