@@ -7,6 +7,7 @@
 mod bases;
 mod first_phase;
 mod optima;
+mod rows;
 mod trees;
 
 pub use bases::{
@@ -22,6 +23,13 @@ pub use first_phase::{
 };
 pub use optima::{
     greatest_payoffs_are_one, left_turns_are_directions, the_right_pays_the_first_player,
+};
+pub use rows::{
+    correlation_rows_are_one_number, each_correlation_row_stands_there,
+    parts_of_drawn_lists_are_drawn, reduced_pairs_are_drawn, reduced_plans_spread_their_corner,
+    solutions_of_correlation_rows_meet_them, spread_corners_have_the_total_of_their_weights,
+    steps_are_of_units_and_amounts, sums_within_are_all_within,
+    the_total_row_is_of_the_first_column,
 };
 pub use trees::{
     connected_sets_are_met, nodes_alike_to_one_are_alike, nodes_have_their_sets_sequence,
