@@ -2,7 +2,9 @@ mod CorrelationRows
 mod DrawnPairs
 mod FirstPhase
 mod GreatestPayoffs
+mod ModeratePrograms
 mod OnePath
 mod OneStep
+mod PlansPlayed
 mod StartLists
 mod Steps

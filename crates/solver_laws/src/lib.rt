@@ -7,6 +7,7 @@
 mod bases;
 mod first_phase;
 mod optima;
+mod plain;
 mod rows;
 mod trees;
 
@@ -23,6 +24,11 @@ pub use first_phase::{
 };
 pub use optima::{
     greatest_payoffs_are_one, left_turns_are_directions, the_right_pays_the_first_player,
+};
+pub use plain::{
+    moderate_products_are_small, plans_alike_get_alike, plans_are_reduced_set_by_set,
+    plans_name_actions_where_they_lead, players_get_what_their_plans_get,
+    what_is_left_turns_with_the_direction, zeros_are_moderate_up_to_256_rows,
 };
 pub use rows::{
     correlation_rows_are_one_number, each_correlation_row_stands_there,
