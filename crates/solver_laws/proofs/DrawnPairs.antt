@@ -1,5 +1,5 @@
 -- Pairs of plans that are drawn, and corners that they spread.
-use Rattle.std.proofs.Common.{◌≡◌, ℕ, ◌+◌, ◌++◌, ◌≤◌, All, List, Some, length, slice_get, ℤ, sym, subst, ◌∙◌, arith}
+use Rattle.std.proofs.Common.{◌≡◌, ℕ, ◌+◌, ◌++◌, ◌≤◌, All, List, Some, length, slice_get, slice_index_or, ℤ, sym, subst, ◌∙◌, arith}
 use Rattle.std.proofs.lemmas.List.{get_or-append-add, get_or_append_left, length-append}
 use Rattle.exact_algebra.specs.Sums.{sum_over}
 use Rattle.corr_game.specs.declared.plans.Pair.{Pair}
@@ -19,8 +19,11 @@ use Rattle.report_form.specs.declared.reports.Corner.{Corner}
 pub reduced_planned : (g : GameView) (pair : Pair) → IsWeighted g (entry_of pair) → IsPlanned g pair
 reduced_planned g pair is = (is.one.is_plan, is.two.is_plan)
 
+pub entry_drawn : (g : GameView) (s : SeqsView) (pair : Pair) → IsEntry g s pair → IsDrawn g pair
+entry_drawn g s pair is = ((is.plan_one, is.plan_two), is.narrow)
+
 pub entries_drawn : (g : GameView) (s : SeqsView) (list : List Pair) → All (IsEntry g s) list → length list ≤ 65535 → AreDrawn g list
-entries_drawn g s list all few = (λ k d l. (let is = all k d l in ((is.plan_one, is.plan_two), is.narrow)), few)
+entries_drawn g s list all few = (λ k d l. entry_drawn g s (slice_index_or list k d) (all k d l), few)
 
 pub front_drawn : (g : GameView) (xs ys : List Pair) → AreDrawn g (xs ++ ys) → AreDrawn g xs
 front_drawn g xs ys drawn = (
@@ -41,7 +44,8 @@ corner_total g p corner rules of spread = sym spread.total ∙ total_summed g p 
 pub block_totals : (g : GameView) (p : PairsView) (corners : List Corner) (sides : List SideRow) (k : ℕ) (corner : Corner) → IsPairs p
     → IsPairsOf g p → AreSpread p (Found corners sides) → slice_get corners k ≡ Some corner
     → corner.total ≡ sum_over (λ (pair : Pair). pair.weight) corner.pairs
-block_totals g p corners sides k corner rules of spread at = corner_total g p corner rules of (all_at (IsSpread p) corners k corner spread at)
+block_totals g p corners sides k corner rules of spread at =
+    corner_total g p corner rules of (all_at (IsSpread p) corners k corner spread at)
 
 pub sums_spread : (g : GameView) (p : PairsView) (corner : Corner) (values : List ℤ) → IsPairs p → IsPairsOf g p
     → All (IsEntry g p.seqs) corner.pairs → length values ≡ length p.pairs → AreSums p corner.pairs values

@@ -1,5 +1,6 @@
 -- Products of moderate numbers, summed over 256 rows at most.
-use Rattle.std.proofs.Common.{◌≡◌, ◌↔◌, ⊎_elim, ℕ, ◌^◌, ◌<◌, ◌≤◌, List, length, ℤ, pos, ◌+ℤ◌, ◌*ℤ◌, neg_ℤ, slice_index_or, unsigned_abs, refl, arith}
+use Rattle.std.proofs.Common.{◌≡◌, ◌↔◌, ⊎_elim, ℕ, ◌^◌, ◌<◌, ◌≤◌, List, length, ℤ, pos, ◌+ℤ◌, ◌*ℤ◌, neg_ℤ, slice_index_or, unsigned_abs}
+use Rattle.std.proofs.Common.{refl, arith}
 use Rattle.std.proofs.lemmas.Bool.{cases_lt}
 use Rattle.std.proofs.lemmas.List.{get_or_past}
 use Rattle.exact_algebra.proofs.RingTactic.{ring_laws, linear}
@@ -11,6 +12,7 @@ use Rattle.lp_form.specs.Certificates.{left_over, times_column}
 use Rattle.lp_form.specs.Program.{LpView, blank, coefficient, payoff_of}
 use Rattle.plane_hull.specs.declared.directions.Dir.{Dir}
 use Rattle.plane_hull.specs.Belt.{IsRight}
+use Rattle.bland_simplex.specs.Multipliers.{HasNarrowColumns}
 use Rattle.plan_polytope.proofs.Filling.{blank_0, blank_count}
 use Rattle.plain_programs.specs.Moderate.{AreModerate, IsModerate, left_along}
 
@@ -30,6 +32,9 @@ small_products lp multipliers col is moderate l =
           (each_moderate multipliers moderate row) (is.coefficients row col h l),
     )) in
     omega (arith, sum, is.few)
+
+pub narrow_columns : (lp : LpView) (multipliers : List ℤ) → IsModerate lp → AreModerate multipliers → HasNarrowColumns lp multipliers
+narrow_columns lp multipliers is moderate col l = let small = small_products lp multipliers col is moderate l in omega arith
 
 pub blank_moderate : (rows cols : ℕ) → IsModerate (blank rows cols) ↔ (rows ≤ 256)
 blank_moderate rows cols = (

@@ -1,5 +1,5 @@
 -- Bases as sets of columns, and the one step of Bland's rule.
-use Rattle.std.proofs.Common.{◌≡◌, ◌↔◌, ⊎_elim, ℕ, ◌<◌, ◌≤◌, ℤ, pos, ◌*ℤ◌, ◌≤ℤ◌, refl, sym, subst, ◌∙◌, arith}
+use Rattle.std.proofs.Common.{◌≡◌, ◌↔◌, ⊎_elim, ℕ, zero, suc, ◌<◌, ◌≤◌, ℤ, pos, ◌*ℤ◌, ◌≤ℤ◌, refl, sym, subst, ◌∙◌, arith}
 use Rattle.std.proofs.lemmas.Bool.{cases_lt}
 use Rattle.std.proofs.lemmas.Int.{ints}
 use Rattle.exact_linear.specs.Basis.{IsBasic, IsSameBasis}
@@ -20,6 +20,14 @@ same_on m first second third a b = record {
   forth = λ k h. (let mid = a.forth k h in let found = b.forth mid.0 mid.1 in (found.0, found.1, found.2 ∙ mid.2));
   back = λ k h. (let mid = b.back k h in let found = a.back mid.0 mid.1 in (found.0, found.1, found.2 ∙ mid.2));
 }
+
+pub two_swapped : (first second : ℕ → ℕ) → first 0 ≡ second 1 → first 1 ≡ second 0 → IsSameBasis 2 first second
+two_swapped first second a b = record { forth = there first second a b; back = there second first (sym b) (sym a) }
+  where
+    there : (x y : ℕ → ℕ) → x 0 ≡ y 1 → x 1 ≡ y 0 → (k : ℕ) → k < 2 → IsBasic 2 y (x k)
+    there x y e f zero h = (1, omega arith, sym e)
+    there x y e f (suc zero) h = (0, omega arith, sym f)
+    there x y e f (suc (suc k)) h = absurd (omega arith)
 
 module _ (m q side : ℕ) (rank basis : ℕ → ℕ) (matrix : ℕ → ℕ → ℤ) (row : ℕ → ℤ) where
   not_before : (r s other next : ℕ) → IsBlandStep m q side rank basis matrix row r s

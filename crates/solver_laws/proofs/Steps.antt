@@ -1,14 +1,16 @@
 -- Multiples of coefficients, and numbers within a bound.
-use Rattle.std.proofs.Common.{◌≡◌, ◌↔◌, ⊎_elim, ℕ, ◌+◌, ◌-◌, ◌^◌, ◌<◌, ◌≤◌, All, List, [], length, ℤ, pos, unsigned_abs, sym, ap, ◌∙◌, arith}
+use Rattle.std.proofs.Common.{◌∷◌, Bool, true, false, cond, nat_eq, ◌≡◌, ◌↔◌, ⊎_elim, ℕ, ◌+◌, ◌-◌, ◌^◌, ◌<◌, ◌≤◌, All, List, [], length}
+use Rattle.std.proofs.Common.{ℤ, pos, unsigned_abs, sym, ap, ◌∙◌, arith}
 use Rattle.std.proofs.lemmas.Bool.{cases_lt}
 use Rattle.std.proofs.lemmas.List.{get_or-append-add, get_or_past}
 use Rattle.std.proofs.lemmas.List.Elements.{All-from_get_or, All-get_or}
+use Rattle.corr_num.proofs.MagnitudeBounds.{word_magnitude}
 use Rattle.lp_form.proofs.Solving.{row_in_front}
-use Rattle.lp_form.specs.Program.{LpView, coefficient, entries_of, joined}
+use Rattle.lp_form.specs.Program.{IsLp, LpView, coefficient, entries_of, joined}
 use Rattle.lp_form.specs.declared.entries.Entry.{Entry}
-use Rattle.lp_form.specs.Row.{value_at}
+use Rattle.lp_form.specs.Row.{Ascends, IsRow, value_at}
 use Rattle.plan_polytope.specs.Bounds.{AreUnits}
-use Rattle.cert_check.specs.Bounds.{AreSteps, AreWithin, IsBounded}
+use Rattle.cert_check.specs.Bounds.{AreSteps, AreWithin, IsBounded, IsStep}
 use Rattle.cert_check.specs.Certified.{whole_of}
 
 pub within_all : (bound : ℕ) (sums : List ℤ) → AreWithin bound sums ↔ All (λ x. unsigned_abs x ≤ bound) sums
@@ -42,3 +44,25 @@ pub bounded_steps : (p : _) → IsBounded p → AreSteps (2 ^ 104) (whole_of p)
 bounded_steps p bounded = joined_steps (2 ^ 104) p.base p.more
     (λ r k. let small = bounded.units r k in omega arith)
     (λ r k. let small = bounded.incentives r k in omega arith)
+
+word_entries : (entries : List Entry) (low cols k : ℕ) → Ascends low cols entries → unsigned_abs (value_at entries k) ≤ 2 ^ 63
+word_entries [] low cols k up = omega arith
+word_entries (entry ∷ rest) low cols k up = by (nat_eq entry.col k) (word_magnitude entry.value up.2)
+    (word_entries rest (entry.col + 1) cols k up.3)
+  where
+    by : (here : Bool) → unsigned_abs entry.value ≤ 2 ^ 63 → unsigned_abs (value_at rest k) ≤ 2 ^ 63
+        → unsigned_abs (cond here entry.value (value_at rest k)) ≤ 2 ^ 63
+    by true own others = own
+    by false own others = others
+
+pub row_steps : (cols : ℕ) (entries : List Entry) → IsRow cols entries → IsStep (2 ^ 125) entries
+row_steps cols entries row k = let small = word_entries entries 0 cols k row in omega arith
+
+pub program_steps : (lp : LpView) → IsLp lp → AreSteps (2 ^ 125) lp
+program_steps lp rules r k = ⊎_elim
+    (λ (l : r < length lp.rows). row_steps lp.cols (entries_of lp r) (rules.each_row r [] l) k)
+    (λ (h : length lp.rows ≤ r).
+    let none : entries_of lp r ≡ [] = get_or_past lp.rows r [] h in
+    let zero : coefficient lp r k ≡ pos 0 = ap (λ (row : List Entry). value_at row k) none in
+    rw zero (omega arith))
+    (cases_lt r (length lp.rows))

@@ -8,12 +8,17 @@ ghost use Rattle.int_tableau.specs.Elimination.{at};
 ghost use Rattle.int_tableau.specs.Start.{IsNarrowRow};
 ghost use Rattle.int_tableau.specs.StartLists.{AreStartRows, IsStartBasis, IsStartRow};
 
-/// Two bases are the same exactly where each column is basic in both or in none, and being the same goes on from one to the next.
+/// Two bases are the same exactly where each column is basic in both or in none.
 pub fn bases_are_sets_of_columns()
-    ensures columns { (m : ℕ) (first second : ℕ → ℕ) → IsSameBasis m first second
+    ensures { (m : ℕ) (first second : ℕ → ℕ) → IsSameBasis m first second
         ↔ ((column : ℕ) → IsBasic m first column ↔ IsBasic m second column) }
+{}
+
+/// Being one basis goes on from the second to a third, and two columns are one basis in either order.
+pub fn bases_are_one_in_any_order()
     ensures on { (m : ℕ) (first second third : ℕ → ℕ) → IsSameBasis m first second → IsSameBasis m second third
         → IsSameBasis m first third }
+    ensures two { (first second : ℕ → ℕ) → first 0 ≡ second 1 → first 1 ≡ second 0 → IsSameBasis 2 first second }
 {}
 
 /// Where columns and basic columns have ranks of their own, Bland's rule takes one step: one column enters, and one row's leaves.

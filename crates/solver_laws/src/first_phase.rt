@@ -1,5 +1,5 @@
 // Laws of the first phase: of the columns that lower it, of tableaus that are driven, stuck and open, and of what it answers.
-ghost use Rattle.std.specs.Prelude.{◌≡◌, ◌≢◌, ◌↔◌, ℕ, ◌+◌, ◌<◌, List, length, Option, None, ℤ, pos, ◌<ℤ◌, slice_index_or};
+ghost use Rattle.std.specs.Prelude.{◌≡◌, ◌≢◌, ◌↔◌, ℕ, ◌+◌, ◌<◌, List, length, None, ℤ, pos, ◌<ℤ◌, slice_index_or};
 ghost use Rattle.exact_algebra.specs.Sums.{sum_to};
 ghost use Rattle.lp_form.specs.Program.{IsProgram, LpView, coefficient};
 ghost use Rattle.int_tableau.specs.Content.{Content, IsTableau};

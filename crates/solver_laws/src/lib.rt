@@ -5,16 +5,21 @@
 #![tactic(auto)]
 
 mod bases;
+mod bounds;
 mod first_phase;
 mod optima;
+mod pairs;
 mod plain;
 mod rows;
 mod trees;
 
 pub use bases::{
-    bases_are_sets_of_columns, blands_rule_stops_at_an_optimum, blands_rule_takes_one_step,
-    program_rows_start_with_their_right_sides, programs_start_in_one_way,
-    start_lists_are_narrow_as_their_rows,
+    bases_are_one_in_any_order, bases_are_sets_of_columns, blands_rule_stops_at_an_optimum,
+    blands_rule_takes_one_step, program_rows_start_with_their_right_sides,
+    programs_start_in_one_way, start_lists_are_narrow_as_their_rows,
+};
+pub use bounds::{
+    rows_of_words_have_small_steps, steps_are_of_units_and_amounts, sums_within_are_all_within,
 };
 pub use first_phase::{
     a_tableau_has_one_answer, answers_are_true, columns_lower_by_their_sums,
@@ -25,16 +30,19 @@ pub use first_phase::{
 pub use optima::{
     greatest_payoffs_are_one, left_turns_are_directions, the_right_pays_the_first_player,
 };
+pub use pairs::{
+    parts_of_drawn_lists_are_drawn, reduced_pairs_are_drawn, reduced_plans_spread_their_corner,
+    spread_corners_have_the_total_of_their_weights,
+};
 pub use plain::{
-    moderate_products_are_small, plans_alike_get_alike, plans_are_reduced_set_by_set,
-    plans_name_actions_where_they_lead, players_get_what_their_plans_get,
-    what_is_left_turns_with_the_direction, zeros_are_moderate_up_to_256_rows,
+    moderate_multipliers_have_narrow_columns, moderate_products_are_small, plans_alike_get_alike,
+    plans_are_reduced_set_by_set, plans_name_actions_where_they_lead,
+    players_get_what_their_plans_get, what_is_left_turns_with_the_direction,
+    zeros_are_moderate_up_to_256_rows,
 };
 pub use rows::{
     correlation_rows_are_one_number, each_correlation_row_stands_there,
-    parts_of_drawn_lists_are_drawn, reduced_pairs_are_drawn, reduced_plans_spread_their_corner,
-    solutions_of_correlation_rows_meet_them, spread_corners_have_the_total_of_their_weights,
-    steps_are_of_units_and_amounts, sums_within_are_all_within,
+    more_rows_leave_the_correlation_rows_met, solutions_of_correlation_rows_meet_them,
     the_total_row_is_of_the_first_column,
 };
 pub use trees::{

@@ -1,5 +1,6 @@
 // Laws of the plain programs' definitions: moderate programs, what players get, and reduced plans set by set.
-ghost use Rattle.std.specs.Prelude.{◌≡◌, ◌↔◌, ℕ, ◌*◌, ◌+◌, ◌^◌, ◌<◌, ◌≤◌, List, Option, Some, None, true, false, length, slice_get, ℤ, neg_ℤ, unsigned_abs};
+ghost use Rattle.std.specs.Prelude.{◌≡◌, ◌↔◌, ℕ, ◌^◌, ◌<◌, ◌≤◌, List, Option, Some, None, true, false, length, slice_get, ℤ, neg_ℤ};
+ghost use Rattle.std.specs.Prelude.{unsigned_abs};
 ghost use Rattle.corr_game.specs.declared.nodes.SetInfo.{SetInfo};
 ghost use Rattle.corr_game.specs.declared.sides.Side.{Side};
 ghost use Rattle.corr_game.specs.declared.sides.Side.TheVariants.{One};
@@ -15,6 +16,7 @@ ghost use Rattle.lp_form.specs.Certificates.{left_over, times_column};
 ghost use Rattle.lp_form.specs.Program.{LpView, blank};
 ghost use Rattle.plane_hull.specs.declared.directions.Dir.{Dir};
 ghost use Rattle.plane_hull.specs.Belt.{IsRight};
+ghost use Rattle.bland_simplex.specs.Multipliers.{HasNarrowColumns};
 ghost use Rattle.plain_programs.specs.Moderate.{AreModerate, IsModerate, left_along};
 ghost use Rattle.plain_programs.specs.PaidWith.{paid_with};
 ghost use Rattle.plain_programs.specs.ReducedAt.{IsReducedAt};
@@ -23,6 +25,11 @@ ghost use Rattle.plain_programs.specs.ReducedAt.{IsReducedAt};
 pub fn moderate_products_are_small()
     ensures { (lp : LpView) (multipliers : List ℤ) (col : ℕ) → IsModerate lp → AreModerate multipliers → col < lp.cols
         → unsigned_abs (times_column lp multipliers col) ≤ 2 ^ 58 }
+{}
+
+/// Moderate multipliers make narrow numbers of a moderate program's columns.
+pub fn moderate_multipliers_have_narrow_columns()
+    ensures { (lp : LpView) (multipliers : List ℤ) → IsModerate lp → AreModerate multipliers → HasNarrowColumns lp multipliers }
 {}
 
 /// A program of zeros is moderate exactly where it has at most 256 rows.

@@ -1,5 +1,5 @@
 use Rattle.solver_laws.proofs.Steps.{bounded_steps, joined_steps, unit_steps}
-use Rattle.solver_laws.proofs.rows.steps_are_of_units_and_amounts.Goals as goal
+use Rattle.solver_laws.proofs.bounds.steps_are_of_units_and_amounts.Goals as goal
 
 pub returns-clause-units : goal.returns-clause-units
 returns-clause-units c = unit_steps
