@@ -1,5 +1,5 @@
 -- Nodes above one node are one of two above the other, so that sets with nodes on one path are connected.
-use Rattle.std.proofs.Common.{◌≡◌, ◌⊎◌, ◌↔◌, inl, inr, ℕ, List, [], ◌∷◌, Some, refl, sym, subst, ◌∙◌}
+use Rattle.std.proofs.Common.{◌≡◌, ◌⊎◌, ◌↔◌, inl, inr, ℕ, ◌<◌, ◌≤◌, length, ap, arith, List, [], ◌∷◌, Some, refl, sym, subst, ◌∙◌}
 use Rattle.corr_game.specs.declared.nodes.Node.{Node}
 use Rattle.corr_game.specs.declared.nodes.Node.TheVariants.{Leaf, Chance, Choice}
 use Rattle.corr_game.specs.declared.nodes.SetId.{SetId}
@@ -7,10 +7,10 @@ use Rattle.corr_game.specs.declared.sides.Side.{Side}
 use Rattle.corr_game.specs.declared.sides.Side.TheVariants.{One, Two}
 use Rattle.corr_game.specs.Game.{GameView, IsGame}
 use Rattle.corr_game.specs.Node.{set_at}
-use Rattle.tree_recall.proofs.Kids.{above_joined, comparable, set_node}
-use Rattle.tree_recall.proofs.OwnSequences.{has_own, made_above, own_same}
+use Rattle.tree_recall.proofs.Kids.{above_joined, comparable, kid_below, set_node}
+use Rattle.tree_recall.proofs.OwnSequences.{has_own, made_above, own_of_kid, own_same}
 use Rattle.tree_recall.specs.OwnSequence.{HasRecall, IsOwnAt}
-use Rattle.tree_recall.specs.Tree.{IsAbove, set_of}
+use Rattle.tree_recall.specs.Tree.{IsAbove, further, kid_of, parent, set_of}
 use Rattle.connected_pairs.specs.Table.{AreConnected}
 use Rattle.plain_trees.specs.Meeting.{IsMetFrom}
 use Rattle.plain_trees.specs.Relevant.{AreRelevant}
@@ -97,6 +97,48 @@ relevant_back_two g n x (z ∷ earlier) (y ∷ before) rules recall own h =
       | inl down ↦ on_one_path g rules h.1 h.0 l.0 z.0.0 y.0.0 down h.2 l.1 l.2
       | inr over ↦ (h.0, l.0, h.2, l.2, inr (above_joined g rules l.0 h.1 h.0 l.1 over))
     ]
+
+-- the own sequence at a node is no longer than at nodes below, and shorter where the player moves at the node
+longer_at_kid : (g : GameView) (side : Side) → IsGame g → (m action n : ℕ) (a b : Moves) → kid_of g m action ≡ Some n
+    → IsOwnAt g side m a → IsOwnAt g side n b → length a ≤ length b
+longer_at_kid g side rules m action n a b e own_a own_b =
+    let parts = own_of_kid g rules side m action n e b own_b in
+    let same = own_same g rules side m a parts.0 own_a parts.1 in
+    elim parts.2 [
+      | inl own ↦ omega (arith, ap (λ (x : Moves). length x) same, ap (λ (x : Moves). length x) own.2)
+      | inr other ↦ omega (arith, ap (λ (x : Moves). length x) same, ap (λ (x : Moves). length x) other.1)
+    ]
+
+longer_below : (g : GameView) (side : Side) → IsGame g → (m n set : ℕ) (a b : Moves) → set_of g side m ≡ Some set → IsAbove g m n
+    → IsOwnAt g side m a → IsOwnAt g side n b → length a < length b
+longer_below g side rules m _ set a b at (parent action n e) own_a own_b =
+    let parts = own_of_kid g rules side m action n e b own_b in
+    let same = own_same g rules side m a parts.0 own_a parts.1 in
+    elim parts.2 [
+      | inl own ↦ omega (arith, ap (λ (x : Moves). length x) same, ap (λ (x : Moves). length x) own.2)
+      | inr other ↦ absurd (cc (at, other.0))
+    ]
+longer_below g side rules m _ set a b at (further between action n up e) own_a own_b =
+    let mid = has_own g rules side between (kid_below g rules between action n e).2 in
+    let first = longer_below g side rules m between set a mid.0 at up own_a mid.1 in
+    let rest = longer_at_kid g side rules between action n mid.0 b e mid.1 own_b in
+    omega arith
+
+recalled_apart : (g : GameView) (side : Side) → IsGame g → HasRecall g side → (m n set : ℕ) → set_of g side m ≡ Some set
+    → set_of g side n ≡ Some set → IsAbove g m n → ⊥
+unfolding HasRecall
+recalled_apart g side rules recall m n set e f up =
+    let a = has_own g rules side m (set_node g side m set e).0 in
+    let b = has_own g rules side n (set_node g side n set f).0 in
+    let same = recall m n set a.0 b.0 e f a.1 b.1 in
+    let longer = longer_below g side rules m n set a.0 b.0 e up a.1 b.1 in
+    omega (arith, ap (λ (x : Moves). length x) same)
+
+pub not_met_from_own : (g : GameView) (m two : ℕ) → IsGame g → HasRecall g Two → set_of g Two m ≡ Some two → IsMetFrom g m two → ⊥
+not_met_from_own g m two rules recall at met = elim met.2 [
+  | inl down ↦ recalled_apart g Two rules recall m met.0 two at met.1 down
+  | inr over ↦ recalled_apart g Two rules recall met.0 m two met.1 at over
+]
 
 pub alike_on : (g : GameView) (side : Side) (m n other : ℕ) → IsGame g → HaveOwnAlike g side m n → HaveOwnAlike g side n other
     → HaveOwnAlike g side m other

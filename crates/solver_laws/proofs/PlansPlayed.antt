@@ -1,6 +1,7 @@
 -- What plans get that agree at each set, and reduced plans set by set.
 use Rattle.std.proofs.Common.{◌≡◌, ◌↔◌, ℕ, ◌<◌, true, false, List, Option, Some, None, length, slice_get, refl, ◌∙◌}
 use Rattle.std.proofs.lemmas.Option.{slice_get-get_or, slice_get_within}
+use Rattle.corr_game.specs.declared.nodes.SetId.{SetId}
 use Rattle.corr_game.specs.declared.nodes.SetInfo.{SetInfo}
 use Rattle.corr_game.specs.declared.sides.Side.{Side}
 use Rattle.corr_game.specs.declared.sides.Side.TheVariants.{One, Two}
@@ -11,6 +12,8 @@ use Rattle.equilibrium.proofs.Agreeing.{AgreeFrom, pay_alike}
 use Rattle.equilibrium.specs.declared.triggers.Trigger.{Trigger}
 use Rattle.equilibrium.specs.Deviation.{deviated, deviated_pay}
 use Rattle.equilibrium.specs.Distribution.{Entry, pay}
+use Rattle.equilibrium.proofs.LeafSums.{leaves_paid}
+use Rattle.equilibrium.specs.Leaves.{AreOwn, leaves_pay}
 use Rattle.equilibrium.specs.Reach.{leads}
 use Rattle.equilibrium.specs.ReducedPlan.{IsReduced, names_some}
 use Rattle.plain_programs.specs.PaidWith.{paid_with}
@@ -18,6 +21,9 @@ use Rattle.plain_programs.specs.ReducedAt.{IsReducedAt}
 
 abbrev Plan : Type 0
 Plan = List (Option ℕ)
+
+abbrev Moves : Type 0
+Moves = List (SetId × ℕ)
 
 pub follows : (side : Side) (g : GameView) (entry : Entry) → paid_with side g (plan_of side entry.one entry.two) entry ≡ pay side g entry
 follows One g entry = refl
@@ -28,6 +34,14 @@ pub leaves : (side : Side) (g : GameView) (trigger : Trigger) (choice : List ℕ
     ≡ deviated_pay side g trigger choice entry
 leaves One g trigger choice entry = refl
 leaves Two g trigger choice entry = refl
+
+pub leaves_one : (g : GameView) (first second : ℕ → Moves) (plan : Plan) (entry : Entry) → IsGame g → AreOwn One g first
+    → AreOwn Two g second → paid_with One g plan entry ≡ leaves_pay One g first second plan entry.two
+leaves_one g first second plan entry rules a b = leaves_paid One g rules first second a b plan entry.two
+
+pub leaves_two : (g : GameView) (first second : ℕ → Moves) (plan : Plan) (entry : Entry) → IsGame g → AreOwn One g first
+    → AreOwn Two g second → paid_with Two g plan entry ≡ leaves_pay Two g first second entry.one plan
+leaves_two g first second plan entry rules a b = leaves_paid Two g rules first second a b entry.one plan
 
 pub get_alike : (side : Side) (g : GameView) (plan other : Plan) (entry : Entry) → IsGame g
     → ((n set : ℕ) → set_of g side n ≡ Some set → slice_get plan set ≡ slice_get other set)

@@ -37,8 +37,8 @@ pub use pairs::{
 pub use plain::{
     moderate_multipliers_have_narrow_columns, moderate_products_are_small, plans_alike_get_alike,
     plans_are_reduced_set_by_set, plans_name_actions_where_they_lead,
-    players_get_what_their_plans_get, what_is_left_turns_with_the_direction,
-    zeros_are_moderate_up_to_256_rows,
+    players_get_the_leaves_that_both_plans_play, players_get_what_their_plans_get,
+    what_is_left_turns_with_the_direction, zeros_are_moderate_up_to_256_rows,
 };
 pub use rows::{
     correlation_rows_are_one_number, each_correlation_row_stands_there,
@@ -47,6 +47,6 @@ pub use rows::{
 };
 pub use trees::{
     connected_sets_are_met, nodes_alike_to_one_are_alike, nodes_have_their_sets_sequence,
-    recall_is_one_sequence_a_set, relevant_sequences_go_back, sequences_at_a_node_are_relevant,
-    sets_are_met_from_above,
+    recall_is_one_sequence_a_set, recalled_sets_are_not_met_from_themselves,
+    relevant_sequences_go_back, sequences_at_a_node_are_relevant, sets_are_met_from_above,
 };

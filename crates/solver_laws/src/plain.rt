@@ -1,15 +1,17 @@
 // Laws of the plain programs' definitions: moderate programs, what players get, and reduced plans set by set.
 ghost use Rattle.std.specs.Prelude.{◌≡◌, ◌↔◌, ℕ, ◌^◌, ◌<◌, ◌≤◌, List, Option, Some, None, true, false, length, slice_get, ℤ, neg_ℤ};
 ghost use Rattle.std.specs.Prelude.{unsigned_abs};
+ghost use Rattle.corr_game.specs.declared.nodes.SetId.{SetId};
 ghost use Rattle.corr_game.specs.declared.nodes.SetInfo.{SetInfo};
 ghost use Rattle.corr_game.specs.declared.sides.Side.{Side};
-ghost use Rattle.corr_game.specs.declared.sides.Side.TheVariants.{One};
+ghost use Rattle.corr_game.specs.declared.sides.Side.TheVariants.{One, Two};
 ghost use Rattle.corr_game.specs.Game.{GameView, IsGame, sets_of};
 ghost use Rattle.corr_game.specs.Plan.{plan_of};
 ghost use Rattle.tree_recall.specs.Tree.{set_of};
 ghost use Rattle.equilibrium.specs.declared.triggers.Trigger.{Trigger};
 ghost use Rattle.equilibrium.specs.Deviation.{deviated, deviated_pay};
 ghost use Rattle.equilibrium.specs.Distribution.{Entry, pay};
+ghost use Rattle.equilibrium.specs.Leaves.{AreOwn, leaves_pay};
 ghost use Rattle.equilibrium.specs.Reach.{leads};
 ghost use Rattle.equilibrium.specs.ReducedPlan.{IsReduced};
 ghost use Rattle.lp_form.specs.Certificates.{left_over, times_column};
@@ -52,6 +54,14 @@ pub fn players_get_what_their_plans_get()
     ensures leaves { (side : Side) (g : GameView) (trigger : Trigger) (choice : List ℕ) (entry : Entry)
         → paid_with side g (deviated side g trigger choice (plan_of side entry.one entry.two)) entry
         ≡ deviated_pay side g trigger choice entry }
+{}
+
+/// A player gets the sum of the amounts of the leaves whose two own sequences the player's plan and the other one's play.
+pub fn players_get_the_leaves_that_both_plans_play()
+    ensures one { (g : GameView) (first second : ℕ → List (SetId × ℕ)) (plan : List (Option ℕ)) (entry : Entry) → IsGame g
+        → AreOwn One g first → AreOwn Two g second → paid_with One g plan entry ≡ leaves_pay One g first second plan entry.two }
+    ensures two { (g : GameView) (first second : ℕ → List (SetId × ℕ)) (plan : List (Option ℕ)) (entry : Entry) → IsGame g
+        → AreOwn One g first → AreOwn Two g second → paid_with Two g plan entry ≡ leaves_pay Two g first second entry.one plan }
 {}
 
 /// Plans that name the same at each set of the player that has a node get the same.

@@ -22,6 +22,11 @@ pub fn connected_sets_are_met()
     ensures { (g : GameView) (one two : ℕ) → AreConnected g one two ↔ ((m : ℕ) × (set_of g One m ≡ Some one) × IsMetFrom g m two) }
 {}
 
+/// With perfect recall a set is met from none of its own nodes.
+pub fn recalled_sets_are_not_met_from_themselves()
+    ensures { (g : GameView) (m two : ℕ) → IsGame g → HasRecall g Two → set_of g Two m ≡ Some two → IsMetFrom g m two → ⊥ }
+{}
+
 /// The two own sequences at a node are relevant.
 pub fn sequences_at_a_node_are_relevant()
     ensures { (g : GameView) (n : ℕ) (one two : List (SetId × ℕ)) → IsGame g → IsOwnAt g One n one → IsOwnAt g Two n two
