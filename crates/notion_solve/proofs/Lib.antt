@@ -4,6 +4,7 @@ mod Inside
 mod Joined
 mod Marking
 mod MeansPaid
+mod Outcomes
 mod Points
 mod PointsApart
 mod RightBlocks
