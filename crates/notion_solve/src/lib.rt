@@ -2,8 +2,9 @@
 //!
 //! `solve` makes the notion's program, leads a tableau through both phases of the simplex method and once round the
 //! polygon of payoffs, and hands each corner's solution to the decomposition into pairs of plans. It stands on all crates
-//! of the solver. The layer above uses that every number of the block is in a report's ranges, and what the block shows of
-//! the notion's program (`IsShownFor`), also where it is too wide.
+//! of the solver, and on `equilibrium_solutions` for what the program's solutions are. The layer above uses that the block
+//! is right for the notion (`IsRightFor`): a polygon inside of which lies exactly what equilibrium lists pay, or that there
+//! is no such list, or a basis that is too wide; and that every number of it is in a report's ranges.
 #![tactic(auto)]
 
 mod blocks;
