@@ -6,5 +6,6 @@ mod ModeratePrograms
 mod OnePath
 mod OneStep
 mod PlansPlayed
+mod SizesHeld
 mod StartLists
 mod Steps

@@ -11,6 +11,7 @@ mod optima;
 mod pairs;
 mod plain;
 mod rows;
+mod sizes;
 mod trees;
 
 pub use bases::{
@@ -44,6 +45,9 @@ pub use rows::{
     correlation_rows_are_one_number, each_correlation_row_stands_there,
     more_rows_leave_the_correlation_rows_met, solutions_of_correlation_rows_meet_them,
     the_total_row_is_of_the_first_column,
+};
+pub use sizes::{
+    blocks_fit_one_by_one, leaves_are_in_their_ranges, the_start_has_the_size_of_its_program,
 };
 pub use trees::{
     connected_sets_are_met, nodes_alike_to_one_are_alike, nodes_have_their_sets_sequence,
