@@ -1,0 +1,4 @@
+pub mod Drawing
+pub mod Counts
+pub mod Fronts
+pub mod Stocks

@@ -1,0 +1,14 @@
+//! Laws of the definitions of texts, answers, bytes and ports, which stand in other crates.
+//!
+//! It holds laws alone, apart from the crates of the definitions, so that a law more proves none of them again. Each law is the
+//! clause of a function that does nothing.
+#![tactic(auto)]
+
+mod draws;
+mod ports;
+
+pub use draws::{digits_are_drawn, seeds_count_up_to_the_modulus, states_follow_each_other};
+pub use ports::{
+    a_front_may_be_all_or_none, counts_rise_to_their_last_value,
+    fronts_behind_whole_pieces_are_fronts, given_and_left_bytes_are_all, rises_go_on,
+};
