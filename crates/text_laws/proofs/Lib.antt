@@ -1,4 +1,9 @@
-pub mod Drawing
 pub mod Counts
+pub mod Drawing
 pub mod Fronts
+pub mod LineTurns
+pub mod LinesRead
+pub mod Places
+pub mod SeenTokens
 pub mod Stocks
+pub mod WordBytes

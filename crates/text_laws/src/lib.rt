@@ -5,9 +5,14 @@
 #![tactic(auto)]
 
 mod draws;
+mod lines;
 mod ports;
 
 pub use draws::{digits_are_drawn, seeds_count_up_to_the_modulus, states_follow_each_other};
+pub use lines::{
+    bytes_are_read_in_one_way, bytes_separate_or_stand_in_words, cursors_cut_bytes,
+    places_stay_places, turns_go_by_the_actions_listed, what_is_seen_is_known,
+};
 pub use ports::{
     a_front_may_be_all_or_none, counts_rise_to_their_last_value,
     fronts_behind_whole_pieces_are_fronts, given_and_left_bytes_are_all, rises_go_on,
