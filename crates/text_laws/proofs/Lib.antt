@@ -1,9 +1,14 @@
 pub mod Counts
 pub mod Drawing
 pub mod Fronts
+pub mod GenAnswers
 pub mod LineTurns
 pub mod LinesRead
 pub mod Places
+pub mod ReportsOn
 pub mod SeenTokens
+pub mod SolveAnswers
+pub mod StandingLines
 pub mod Stocks
 pub mod WordBytes
+pub mod WorkAnswers

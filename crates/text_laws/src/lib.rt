@@ -4,10 +4,15 @@
 //! clause of a function that does nothing.
 #![tactic(auto)]
 
+mod answers;
 mod draws;
 mod lines;
 mod ports;
 
+pub use answers::{
+    games_are_generated_once, inputs_are_refused_by_one_line, reports_are_on_one_game,
+    standing_lines_are_told_apart, work_refuses_what_solve_refuses,
+};
 pub use draws::{digits_are_drawn, seeds_count_up_to_the_modulus, states_follow_each_other};
 pub use lines::{
     bytes_are_read_in_one_way, bytes_separate_or_stand_in_words, cursors_cut_bytes,
