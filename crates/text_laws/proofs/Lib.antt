@@ -1,3 +1,5 @@
+pub mod BlockTexts
+pub mod CauseTexts
 pub mod Counts
 pub mod Drawing
 pub mod Fronts
@@ -10,5 +12,6 @@ pub mod SeenTokens
 pub mod SolveAnswers
 pub mod StandingLines
 pub mod Stocks
+pub mod TellingTexts
 pub mod WordBytes
 pub mod WorkAnswers

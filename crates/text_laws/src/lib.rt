@@ -8,6 +8,7 @@ mod answers;
 mod draws;
 mod lines;
 mod ports;
+mod texts;
 
 pub use answers::{
     games_are_generated_once, inputs_are_refused_by_one_line, reports_are_on_one_game,
@@ -21,4 +22,8 @@ pub use lines::{
 pub use ports::{
     a_front_may_be_all_or_none, counts_rise_to_their_last_value,
     fronts_behind_whole_pieces_are_fronts, given_and_left_bytes_are_all, rises_go_on,
+};
+pub use texts::{
+    blocks_are_told_by_their_texts, refusals_are_no_answers, summaries_count_nodes_and_tell_points,
+    verdicts_are_told_by_their_lines,
 };
