@@ -6,6 +6,7 @@ pub mod Fronts
 pub mod GenAnswers
 pub mod LineTurns
 pub mod LinesRead
+pub mod OneLine
 pub mod Places
 pub mod ReportsOn
 pub mod SeenTokens
@@ -14,4 +15,5 @@ pub mod StandingLines
 pub mod Stocks
 pub mod TellingTexts
 pub mod WordBytes
+pub mod Words
 pub mod WorkAnswers

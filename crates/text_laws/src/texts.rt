@@ -16,6 +16,7 @@ ghost use Rattle.report_form.specs.View.{ReportView};
 ghost use Rattle.report_text.specs.Joined.{each_text};
 ghost use Rattle.report_text.specs.RefusalText.{refusal_text};
 ghost use Rattle.report_text.specs.ReportText.{block_text, named_block_text, report_text};
+ghost use Rattle.text_laws.specs.RefusalNumbers.{HasFields};
 
 /// A block's text tells its notion and whether it is too wide; and the texts of blocks stand one behind the other.
 pub fn blocks_are_told_by_their_texts()
@@ -23,6 +24,11 @@ pub fn blocks_are_told_by_their_texts()
     ensures wide { (a b : Block) → block_text a ≡ block_text b → is_too_wide a ≡ is_too_wide b }
     ensures joined { (xs ys : List NamedBlock)
         → each_text named_block_text (xs ++ ys) ≡ each_text named_block_text xs ++ each_text named_block_text ys }
+{}
+
+/// No two refusals have one line, as far as their fields hold their numbers.
+pub fn refusals_are_told_by_their_lines()
+    ensures { (a b : Refusal) → HasFields a → HasFields b → refusal_text a ≡ refusal_text b → a ≡ b }
 {}
 
 /// The line of a refusal is no report, no verdict and no summary.
