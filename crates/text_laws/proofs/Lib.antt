@@ -4,10 +4,14 @@ pub mod Counts
 pub mod Drawing
 pub mod Fronts
 pub mod GenAnswers
+pub mod Integers
+pub mod ItemTexts
 pub mod LineTurns
 pub mod LinesRead
 pub mod OneLine
+pub mod PartsTold
 pub mod Places
+pub mod ReportTold
 pub mod ReportsOn
 pub mod SeenTokens
 pub mod SolveAnswers

@@ -65,3 +65,20 @@ pub added_split : (p q : List ℕ) (xs ys : List (List ℕ)) → is_word p ≡ t
     → get_or (flat xs) 0 0 ≤ 32 → get_or (flat ys) 0 0 ≤ 32 → added p xs ≡ added q ys → (p ≡ q) × (flat xs ≡ flat ys)
 added_split p q xs ys word other low under e =
     words_split p q (flat xs) (flat ys) word other low under (sym (added_flat p xs) ∙ e ∙ added_flat q ys)
+
+-- the pieces in front of a tail
+abbrev pub flat_to : List (List ℕ) → List ℕ → List ℕ
+flat_to [] tail = tail
+flat_to (piece ∷ rest) tail = piece ++ flat_to rest tail
+
+pub regrouped : (first : List ℕ) (rest : List (List ℕ)) (tail : List ℕ) → added first rest ++ tail ≡ first ++ flat_to rest tail
+regrouped first [] tail = refl
+regrouped first (piece ∷ rest) tail = regrouped (first ++ piece) rest tail ∙ append_assoc first piece (flat_to rest tail)
+
+pub both_regrouped : (p q : List ℕ) (xs ys : List (List ℕ)) (a b : List ℕ) → added p xs ++ a ≡ added q ys ++ b
+    → p ++ flat_to xs a ≡ q ++ flat_to ys b
+both_regrouped p q xs ys a b e = sym (regrouped p xs a) ∙ e ∙ regrouped q ys b
+
+pub behind_same : (front a b : List ℕ) → front ++ a ≡ front ++ b → a ≡ b
+behind_same [] a b e = e
+behind_same (byte ∷ front) a b e = behind_same front a b (cc e)

@@ -24,6 +24,7 @@ pub use ports::{
     fronts_behind_whole_pieces_are_fronts, given_and_left_bytes_are_all, rises_go_on,
 };
 pub use texts::{
-    blocks_are_told_by_their_texts, refusals_are_no_answers, refusals_are_told_by_their_lines,
-    summaries_count_nodes_and_tell_points, verdicts_are_told_by_their_lines,
+    blocks_are_told_by_their_texts, one_text_is_of_one_report, refusals_are_no_answers,
+    refusals_are_told_by_their_lines, summaries_count_nodes_and_tell_points,
+    verdicts_are_told_by_their_lines,
 };

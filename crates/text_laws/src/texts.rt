@@ -12,7 +12,9 @@ ghost use Rattle.report_form.specs.declared.reports.Block.{Block};
 ghost use Rattle.report_form.specs.declared.reports.Corner.{Corner};
 ghost use Rattle.report_form.specs.declared.reports.NamedBlock.{NamedBlock};
 ghost use Rattle.report_form.specs.Points.{points_of};
+ghost use Rattle.report_form.specs.Ranges.{IsReport};
 ghost use Rattle.report_form.specs.View.{ReportView};
+ghost use Rattle.report_reader.specs.Syntax.{IsReadFrom};
 ghost use Rattle.report_text.specs.Joined.{each_text};
 ghost use Rattle.report_text.specs.RefusalText.{refusal_text};
 ghost use Rattle.report_text.specs.ReportText.{block_text, named_block_text, report_text};
@@ -24,6 +26,15 @@ pub fn blocks_are_told_by_their_texts()
     ensures wide { (a b : Block) → block_text a ≡ block_text b → is_too_wide a ≡ is_too_wide b }
     ensures joined { (xs ys : List NamedBlock)
         → each_text named_block_text (xs ++ ys) ≡ each_text named_block_text xs ++ each_text named_block_text ys }
+{}
+
+/// One text is of one report, no report's text is a front of another's, and from the front of some bytes one report is read.
+pub fn one_text_is_of_one_report()
+    ensures text { (x y : ReportView) → IsReport x → IsReport y → report_text x ≡ report_text y → x ≡ y }
+    ensures front { (x y : ReportView) (a b : List ℕ) → IsReport x → IsReport y → report_text x ++ a ≡ report_text y ++ b
+        → (x ≡ y) × (a ≡ b) }
+    ensures read { (bytes : List ℕ) (x y : ReportView) (m n : ℕ) → IsReadFrom bytes x m → IsReadFrom bytes y n
+        → (x ≡ y) × (m ≡ n) }
 {}
 
 /// No two refusals have one line, as far as their fields hold their numbers.
