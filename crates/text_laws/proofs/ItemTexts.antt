@@ -1,5 +1,6 @@
 -- Texts of items, one behind the other, tell the items: each begins with a byte with which what is behind them doesn't begin.
-use Rattle.std.proofs.Common.{◌≡◌, ℕ, ◌+◌, ◌<◌, ◌≤◌, ◌^◌, ℤ, List, [], ◌∷◌, ◌++◌, All, Option, Some, None, drop, get_or, refl, sym, ap, ◌∙◌, append_assoc, subst, arith}
+use Rattle.std.proofs.Common.{◌≡◌, ℕ, ◌+◌, ◌<◌, ◌≤◌, ◌^◌, ℤ, List, [], ◌∷◌, ◌++◌, All, Option, Some, None, drop, get_or, refl, sym, ap}
+use Rattle.std.proofs.Common.{◌∙◌, append_assoc, subst, arith}
 use Rattle.std.proofs.lemmas.List.Elements.{All-cons, All-head, All-nil, All-tail}
 use Rattle.std.specs.Fmt.{decimal}
 use Rattle.corr_num.specs.Narrow.{Narrow}

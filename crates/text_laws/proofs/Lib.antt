@@ -3,12 +3,14 @@ pub mod CauseTexts
 pub mod Counts
 pub mod Drawing
 pub mod Fronts
+pub mod GameLines
 pub mod GenAnswers
 pub mod Integers
 pub mod ItemTexts
 pub mod LineTurns
 pub mod LinesRead
 pub mod OneLine
+pub mod OneVerdict
 pub mod PartsTold
 pub mod Places
 pub mod ReportTold

@@ -13,7 +13,8 @@ use Rattle.report_form.specs.declared.refusals.NodeRule.TheVariants.{TooManyActi
 use Rattle.report_form.specs.declared.refusals.NodeRule.TheVariants.{SetDiffers, PayoffCount, OutcomeUnknown, OutcomeDiffers}
 use Rattle.report_form.specs.declared.refusals.NodeRule.TheVariants.{MissingNode, PathTooFine, AmountTooLarge}
 use Rattle.report_form.specs.declared.refusals.Refusal.{Refusal}
-use Rattle.report_form.specs.declared.refusals.Refusal.TheVariants.{InputTooLong, Report, Syntax, Players, AtNode, ScaleTooLarge, Forgets, Triangle, Size, TooLarge}
+use Rattle.report_form.specs.declared.refusals.Refusal.TheVariants.{InputTooLong, Report, Syntax, Players, AtNode, ScaleTooLarge}
+use Rattle.report_form.specs.declared.refusals.Refusal.TheVariants.{Forgets, Triangle, Size, TooLarge}
 use Rattle.report_text.proofs.Telling.{one_notion, one_player, one_rule}
 use Rattle.report_text.specs.NameText.{notion_name, player_name, rule_name}
 use Rattle.report_text.specs.PartText.{behind_space, count_text}

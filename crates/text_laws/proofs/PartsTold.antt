@@ -12,7 +12,8 @@ use Rattle.plane_hull.specs.declared.sides.SideRow.{SideRow}
 use Rattle.report_form.specs.declared.reports.Corner.{Corner}
 use Rattle.report_form.specs.Ranges.{IsCorner, IsPair, IsRow, IsSide}
 use Rattle.report_text.specs.Joined.{each_text}
-use Rattle.report_text.specs.PartText.{action_text, behind_space, count_text, frac_text, int_text, pair_text, row_text, side_line, side_text}
+use Rattle.report_text.specs.PartText.{action_text, behind_space, count_text, frac_text, int_text, pair_text, row_text, side_line}
+use Rattle.report_text.specs.PartText.{side_text}
 use Rattle.report_text.specs.ReportText.{corner_line, corner_text}
 use Rattle.text_laws.proofs.Integers.{decimal_below, fractions_split, integers_split, naturals_split}
 use Rattle.text_laws.proofs.ItemTexts.{actions_told, ints_told, items_told}
@@ -158,7 +159,8 @@ pub corner_told : (k : ℕ) (x y : Corner) (a b : List ℕ) → IsCorner x → I
     → corner_text k x ++ a ≡ corner_text k y ++ b → (x ≡ y) × (a ≡ b)
 unfolding behind_space
 corner_told k x y a b p q other others e =
-    let behind = behind_same (count_text k) (flat_to (tail_pieces x) a) (flat_to (tail_pieces y) b) (ap (drop 6) (corner_grouped k x y a b e)) in
+    let behind = behind_same (count_text k) (flat_to (tail_pieces x) a) (flat_to (tail_pieces y) b)
+    (ap (drop 6) (corner_grouped k x y a b e)) in
     let ones = fractions_split x.point.one y.point.one
     (codes " " ++ (frac_text x.point.two ++ (codes " total" ++ (int_text x.total ++ pairs_behind x a))))
     (codes " " ++ (frac_text y.point.two ++ (codes " total" ++ (int_text y.total ++ pairs_behind y b))))

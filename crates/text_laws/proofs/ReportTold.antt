@@ -1,5 +1,6 @@
 -- A report's text tells the report: block by block, as each list ends where another byte begins than that of its items.
-use Rattle.std.proofs.Common.{◌≡◌, ℕ, ◌+◌, ◌<◌, ◌^◌, ℤ, pos, negsuc, true, List, [], ◌∷◌, ◌++◌, All, codes, drop, get_or, length, refl, sym, ap, ◌∙◌, subst, arith}
+use Rattle.std.proofs.Common.{◌≡◌, ℕ, ◌+◌, ◌<◌, ◌^◌, ℤ, pos, negsuc, true, List, [], ◌∷◌, ◌++◌, All, codes, drop, get_or, length, refl}
+use Rattle.std.proofs.Common.{sym, ap, ◌∙◌, subst, arith}
 use Rattle.std.proofs.lemmas.Int.{ints}
 use Rattle.std.proofs.lemmas.List.Elements.{All-cons, All-nil}
 use Rattle.std.specs.Prelude.{unsigned_abs}
@@ -141,7 +142,7 @@ block_first (Found corners sides) a = refl
 block_first (Empty multipliers) a = refl
 block_first (TooWide basis place) a = refl
 
-notion_words : (notion : Notion) → is_word (notion_name notion) ≡ true
+pub notion_words : (notion : Notion) → is_word (notion_name notion) ≡ true
 unfolding notion_name
 notion_words Efce = refl
 notion_words Efcce = refl

@@ -1,1 +1,3 @@
+pub mod LineCount
 pub mod RefusalNumbers
+pub mod VerdictFields

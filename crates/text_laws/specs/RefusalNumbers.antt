@@ -1,7 +1,8 @@
 -- The numbers that a refusal's fields can hold.
 use Rattle.std.specs.Prelude.{ℕ, ◌^◌, ◌<◌}
 use Rattle.report_form.specs.declared.refusals.Refusal.{Refusal}
-use Rattle.report_form.specs.declared.refusals.Refusal.TheVariants.{InputTooLong, Report, Syntax, Players, AtNode, ScaleTooLarge, Forgets, Triangle, Size, TooLarge}
+use Rattle.report_form.specs.declared.refusals.Refusal.TheVariants.{InputTooLong, Report, Syntax, Players, AtNode, ScaleTooLarge}
+use Rattle.report_form.specs.declared.refusals.Refusal.TheVariants.{Forgets, Triangle, Size, TooLarge}
 
 -- a field's number is below 2^64
 abbrev pub IsField : ℕ → Type 0

@@ -1,5 +1,6 @@
 // Laws of a game file's bytes, tokens and lines and of the places in a report, as functions that do nothing.
-ghost use Rattle.std.specs.Prelude.{◌≡◌, ◌≢◌, ◌⊎◌, ℕ, ◌-◌, ◌^◌, ◌<◌, ◌≤◌, ◌++◌, List, length, take, drop, Option, Some, None, Result, Ok, Err, true, false};
+ghost use Rattle.std.specs.Prelude.{◌≡◌, ◌≢◌, ◌⊎◌, ℕ, ◌-◌, ◌^◌, ◌<◌, ◌≤◌, ◌++◌, List, All, length, take, drop, Option, Some, None};
+ghost use Rattle.std.specs.Prelude.{Result, Ok, Err, true, false};
 ghost use Rattle.efg_lines.specs.declared.node_line.ActLine.{ActLine};
 ghost use Rattle.efg_lines.specs.declared.node_line.LineKind.{LineKind};
 ghost use Rattle.efg_lines.specs.declared.refusal.FileRefusal.{FileRefusal};
@@ -15,7 +16,8 @@ ghost use Rattle.efg_token.specs.declared.token.Token.{Token};
 ghost use Rattle.efg_token.specs.declared.token.Token.TheVariants.{BraceLeft, BraceRight, Comma};
 ghost use Rattle.efg_token.specs.declared.token.TokenFault.{TokenFault};
 ghost use Rattle.efg_token.specs.Bytes.{is_in_word, is_mark, is_white};
-ghost use Rattle.efg_token.specs.Lexeme.{brace_left, brace_right, comma};
+ghost use Rattle.efg_token.specs.Front.{found, front};
+ghost use Rattle.efg_token.specs.Lexeme.{brace_left, brace_right, comma, word};
 ghost use Rattle.efg_token.specs.Seen.{IfFound, IfUnended, lexeme};
 ghost use Rattle.number_words.specs.Number.{NumberView};
 ghost use Rattle.report_reader.specs.declared.refusals.ReportRefusal.{ReportRefusal};
@@ -24,11 +26,14 @@ ghost use Rattle.report_reader.specs.Cursor.{Cursor};
 ghost use Rattle.report_reader.specs.Place.{IsPlace};
 ghost use Rattle.report_reader.specs.Syntax.{IsSyntaxAt};
 
-/// White space is no mark, and is at most a space. Each byte from the minus on may stand in a word, but for the two braces.
+/// White space is no mark, and is at most a space. Each byte from the minus on may stand in a word, but for the two braces; and a
+/// word that stands first isn't empty, and all bytes of it may.
 pub fn bytes_separate_or_stand_in_words()
     ensures apart { (byte : ℕ) → is_white byte ≡ true → is_mark byte ≡ false }
     ensures low { (byte : ℕ) → is_white byte ≡ true → byte ≤ 32 }
     ensures in_words { (byte : ℕ) → 45 ≤ byte → byte ≢ 123 → byte ≢ 125 → is_in_word byte ≡ true }
+    ensures word { (bytes w rest : List ℕ) → front bytes ≡ found (word w) rest
+        → (0 < length w) × All (λ (byte : ℕ). is_in_word byte ≡ true) w }
 {}
 
 /// Where neither a token nor a text without end was seen, nothing was. A brace and a comma stand for one token each.
