@@ -1,10 +1,12 @@
 -- The lines of a generated game's file: those of its pieces, as numbers have none.
-use Rattle.std.proofs.Common.{◌≡◌, ℕ, zero, suc, ◌+◌, ◌*◌, ◌/◌, ◌%◌, ◌<◌, ◌≤◌, ◌^◌, Bool, true, false, nat_eq, cond, List, [], ◌∷◌, ◌++◌}
-use Rattle.std.proofs.Common.{codes, refl, arith}
+use Rattle.std.proofs.Common.{◌≡◌, ℕ, zero, suc, ◌+◌, ◌*◌, ◌/◌, ◌%◌, ◌<◌, ◌≤◌, ◌^◌, false, ◌==◌, List, [], ◌∷◌, ◌++◌}
+use Rattle.std.proofs.Common.{codes, length, length-append, refl, ap, ◌∙◌, arith}
 use Rattle.std.proofs.lemmas.Bool.Decides.{nat_tests}
 use Rattle.std.proofs.lemmas.Fmt.{decimal_is_IsNumeral_wide}
+use Rattle.std.proofs.lemmas.List.Elements.{filter-append}
 use Rattle.std.proofs.lemmas.Str.Parse.{digit_from_value}
 use Rattle.std.specs.Fmt.{decimal}
+use Rattle.std.specs.List.{filter}
 use Rattle.std.specs.Str.Parse.{AllDigits}
 use Rattle.answer_text.specs.SummaryText.{node_count}
 use Rattle.game_gen.specs.declared.kinds.Kind.{Kind}
@@ -15,16 +17,15 @@ use Rattle.game_gen.specs.GameText.{game_lines, game_text, greatest, kind_name, 
 use Rattle.game_gen.specs.Random.{draw}
 use Rattle.text_laws.proofs.Drawing.{is_digit}
 use Rattle.text_laws.proofs.Words.{added}
-use Rattle.text_laws.specs.LineCount.{line_count}
+
+-- the lines of a text, each of which ends with a line feed
+abbrev line_count : List ℕ → ℕ
+line_count text = length (filter (λ (byte : ℕ). byte == 10) text)
 
 append_lines : (xs ys : List ℕ) → line_count (xs ++ ys) ≡ line_count xs + line_count ys
-append_lines [] ys = omega arith
-append_lines (byte ∷ xs) ys = by_byte (nat_eq byte 10) (append_lines xs ys)
-  where
-    by_byte : (test : Bool) → line_count (xs ++ ys) ≡ line_count xs + line_count ys
-        → cond test (line_count (xs ++ ys) + 1) (line_count (xs ++ ys)) ≡ cond test (line_count xs + 1) (line_count xs) + line_count ys
-    by_byte true e = omega (arith, e)
-    by_byte false e = e
+append_lines xs ys =
+    ap (λ (feeds : List ℕ). length feeds) (filter-append (λ (byte : ℕ). byte == 10) xs ys)
+    ∙ length-append (filter (λ (byte : ℕ). byte == 10) xs) (filter (λ (byte : ℕ). byte == 10) ys)
 
 -- the lines of all pieces
 abbrev total : List (List ℕ) → ℕ
@@ -39,7 +40,7 @@ digit_lines : (ds : List ℕ) → AllDigits 10 ds → line_count ds ≡ 0
 digit_lines [] digits = refl
 digit_lines (d ∷ ds) digits =
     let high : 48 ≤ d = (digit_from_value d digits.0).0 in
-    let apart : nat_eq d 10 ≡ false = grind (arith, nat_tests) in
+    let apart : (d == 10) ≡ false = grind (arith, nat_tests) in
     rw apart (digit_lines ds digits.1)
 
 number_lines : (n : ℕ) → n < 10 ^ 64 → line_count (decimal n) ≡ 0
@@ -179,7 +180,8 @@ node_lines Chain n seed within =
       below_lines n 2 (chain_move seed) (λ k less. chain_two seed k (omega (arith, less, within))),
     )
 
-pub lines_are_nodes : (kind : Kind) (n seed : ℕ) → n ≤ greatest kind → line_count (game_text kind n seed) ≡ node_count kind n + 1
+pub lines_are_nodes : (kind : Kind) (n seed : ℕ) → n ≤ greatest kind
+    → length (filter (λ (byte : ℕ). byte == 10) (game_text kind n seed)) ≡ node_count kind n + 1
 unfolding game_text
 lines_are_nodes kind n seed within =
     omega (arith, append_lines (title kind) (game_lines kind n seed), title_one kind, node_lines kind n seed within)

@@ -20,7 +20,7 @@ use Rattle.report_text.specs.NameText.{notion_name, player_name, rule_name}
 use Rattle.report_text.specs.PartText.{behind_space, count_text}
 use Rattle.report_text.specs.RefusalText.{cause_text, refusal_text}
 use Rattle.text_laws.proofs.Words.{added, added_split, decimals_are_words, flat, is_word, numbers_split, words_split}
-use Rattle.text_laws.specs.RefusalNumbers.{HasFields, IsField}
+use Rattle.text_laws.specs.Fields.{HasRefusalFields, IsField}
 
 -- the sum of the bytes in front of the first space
 abbrev first_sum : List ℕ → ℕ
@@ -197,7 +197,7 @@ sizes a b m n p q fm fn fp fq e =
     (one_notion a b notion.0, rows.0, last_number n q fn fq (ap (drop 9) rows.1))
 
 -- two of one kind
-same_of_kind : (a b : Refusal) → HasFields a → HasFields b → kind_of a ≡ kind_of b → refusal_text a ≡ refusal_text b → a ≡ b
+same_of_kind : (a b : Refusal) → HasRefusalFields a → HasRefusalFields b → kind_of a ≡ kind_of b → refusal_text a ≡ refusal_text b → a ≡ b
 same_of_kind (InputTooLong m) (InputTooLong n) x y kind e = ap InputTooLong (input_limits m n x y e)
 same_of_kind (Report m) (Report n) x y kind e = ap Report (report_places m n x y e)
 same_of_kind (Syntax m) (Syntax n) x y kind e = ap Syntax (syntax_places m n x y e)
@@ -216,5 +216,5 @@ same_of_kind (Size a m n) (Size b p q) x y kind e =
 same_of_kind (TooLarge m) (TooLarge n) x y kind e = ap TooLarge (greatest_sizes m n x y e)
 same_of_kind a b x y kind e = absurd (omega (arith, kind))
 
-pub one_refusal_a_line : (a b : Refusal) → HasFields a → HasFields b → refusal_text a ≡ refusal_text b → a ≡ b
+pub one_refusal_a_line : (a b : Refusal) → HasRefusalFields a → HasRefusalFields b → refusal_text a ≡ refusal_text b → a ≡ b
 one_refusal_a_line a b x y e = same_of_kind a b x y (same_kind a b e) e

@@ -15,7 +15,7 @@ use Rattle.report_text.specs.NameText.{notion_name}
 use Rattle.text_laws.proofs.CauseTexts.{one_cause_a_line}
 use Rattle.text_laws.proofs.ReportTold.{notion_words}
 use Rattle.text_laws.proofs.Words.{both_regrouped, numbers_split, words_split}
-use Rattle.text_laws.specs.VerdictFields.{HasItemFields, HasVerdictFields}
+use Rattle.text_laws.specs.Fields.{HasItemFields, HasVerdictFields}
 
 -- the first byte of an item's text
 abbrev item_byte : Item → ℕ

@@ -1,3 +1,1 @@
-pub mod LineCount
-pub mod RefusalNumbers
-pub mod VerdictFields
+pub mod Fields

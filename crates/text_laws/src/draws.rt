@@ -21,3 +21,9 @@ pub fn states_follow_each_other()
 pub fn seeds_count_up_to_the_modulus()
     ensures { (seed number : ℕ) → draw (seed + 2 ^ 64) number ≡ draw seed number }
 {}
+
+/// No two states below the modulus lead to one, so that different seeds lead to different states after any number of draws.
+pub fn seeds_never_meet()
+    ensures step { (a b : ℕ) → a < 2 ^ 64 → b < 2 ^ 64 → next_state a ≡ next_state b → a ≡ b }
+    ensures steps { (drawn a b : ℕ) → a < 2 ^ 64 → b < 2 ^ 64 → state_after drawn a ≡ state_after drawn b → a ≡ b }
+{}

@@ -14,7 +14,9 @@ pub use answers::{
     games_are_generated_once, inputs_are_refused_by_one_line, reports_are_on_one_game,
     standing_lines_are_told_apart, work_refuses_what_solve_refuses,
 };
-pub use draws::{digits_are_drawn, seeds_count_up_to_the_modulus, states_follow_each_other};
+pub use draws::{
+    digits_are_drawn, seeds_count_up_to_the_modulus, seeds_never_meet, states_follow_each_other,
+};
 pub use lines::{
     bytes_are_read_in_one_way, bytes_separate_or_stand_in_words, cursors_cut_bytes,
     places_stay_places, turns_go_by_the_actions_listed, what_is_seen_is_known,

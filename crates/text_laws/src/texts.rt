@@ -1,5 +1,6 @@
 // Laws of the texts of reports, refusals, verdicts and summaries, as functions that do nothing.
-ghost use Rattle.std.specs.Prelude.{◌≡◌, ◌↔◌, ℕ, ◌+◌, ◌<◌, ◌≤◌, List, [], ◌++◌};
+ghost use Rattle.std.specs.Prelude.{◌≡◌, ◌↔◌, ℕ, ◌+◌, ◌<◌, ◌≤◌, ◌==◌, List, [], ◌++◌, length};
+ghost use Rattle.std.specs.List.{filter};
 ghost use Rattle.answer_text.specs.SummaryText.{node_count, polygon_summary, summary_text};
 ghost use Rattle.answer_text.specs.VerdictText.{cause_text, verdict_text, wide_name};
 ghost use Rattle.cert_check.specs.declared.verdicts.Cause.{Cause};
@@ -19,9 +20,7 @@ ghost use Rattle.report_reader.specs.Syntax.{IsReadFrom};
 ghost use Rattle.report_text.specs.Joined.{each_text};
 ghost use Rattle.report_text.specs.RefusalText.{refusal_text};
 ghost use Rattle.report_text.specs.ReportText.{block_text, named_block_text, report_text};
-ghost use Rattle.text_laws.specs.LineCount.{line_count};
-ghost use Rattle.text_laws.specs.RefusalNumbers.{HasFields};
-ghost use Rattle.text_laws.specs.VerdictFields.{HasVerdictFields};
+ghost use Rattle.text_laws.specs.Fields.{HasRefusalFields, HasVerdictFields};
 
 /// A block's text tells its notion and whether it is too wide; and the texts of blocks stand one behind the other.
 pub fn blocks_are_told_by_their_texts()
@@ -42,7 +41,7 @@ pub fn one_text_is_of_one_report()
 
 /// No two refusals have one line, as far as their fields hold their numbers.
 pub fn refusals_are_told_by_their_lines()
-    ensures { (a b : Refusal) → HasFields a → HasFields b → refusal_text a ≡ refusal_text b → a ≡ b }
+    ensures { (a b : Refusal) → HasRefusalFields a → HasRefusalFields b → refusal_text a ≡ refusal_text b → a ≡ b }
 {}
 
 /// The line of a refusal is no report, no verdict and no summary.
@@ -71,6 +70,7 @@ pub fn verdicts_are_told_by_their_lines()
 pub fn summaries_count_nodes_and_tell_points()
     ensures more { (kind : Kind) (m n : ℕ) → m < n → node_count kind m < node_count kind n }
     ensures root { (kind : Kind) → node_count kind 0 ≡ 1 }
-    ensures lines { (kind : Kind) (n seed : ℕ) → n ≤ greatest kind → line_count (game_text kind n seed) ≡ node_count kind n + 1 }
+    ensures lines { (kind : Kind) (n seed : ℕ) → n ≤ greatest kind
+        → length (filter (λ (byte : ℕ). byte == 10) (game_text kind n seed)) ≡ node_count kind n + 1 }
     ensures points { (a b : List Corner) → points_of a ≡ points_of b → polygon_summary a ≡ polygon_summary b }
 {}
