@@ -1,3 +1,4 @@
+mod WholeWords
 pub mod BlockTexts
 pub mod CauseTexts
 pub mod Counts

@@ -7,6 +7,7 @@
 mod answers;
 mod draws;
 mod lines;
+mod numbers;
 mod ports;
 mod texts;
 
@@ -20,6 +21,9 @@ pub use draws::{
 pub use lines::{
     bytes_are_read_in_one_way, bytes_separate_or_stand_in_words, cursors_cut_bytes,
     places_stay_places, turns_go_by_the_actions_listed, what_is_seen_is_known,
+};
+pub use numbers::{
+    bytes_are_left_by_place, no_block_says_no_payoff, sizes_are_refused_once, wholes_are_numbers,
 };
 pub use ports::{
     a_front_may_be_all_or_none, counts_rise_to_their_last_value,
