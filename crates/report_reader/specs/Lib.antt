@@ -1,4 +1,5 @@
 pub mod Cursor
 pub mod Pieces
 pub mod Place
+pub mod Reading
 pub mod Syntax

@@ -1,5 +1,6 @@
-ghost use Rattle.std.specs.Prelude.{◌≡◌, ◌+◌, ◌≤◌, length, IsTrue};
+ghost use Rattle.std.specs.Prelude.{◌≡◌, ◌+◌, ◌≤◌, length, IsTrue, IsFalse, OnOk};
 ghost use Rattle.report_reader.specs.Cursor.{Cursor};
+ghost use Rattle.report_reader.specs.Reading.{Reads, first_piece, left_of, piece_length};
 
 use crate::refusals::Stop;
 use std::marker::Model;
@@ -25,6 +26,7 @@ impl<'a> Model for Pieces<'a> {
 
 /// The length of the first piece, or 0 where no byte is left.
 fn piece_length(bytes: &[u8]) -> usize
+    ensures value { result ≡ piece_length bytes.now }
     ensures within { result ≤ length bytes.now }
 {
     let mut n = 0;
@@ -52,6 +54,7 @@ impl<'a> Pieces<'a> {
 
     /// The next piece, which is empty where none is left.
     pub(crate) fn next(&self) -> &'a [u8]
+        ensures first { result.now ≡ first_piece (left_of self.now) }
         ensures within { self.now.at + length result.now ≤ length self.now.bytes }
     {
         let left = self.bytes.split_at(self.at).1;
@@ -60,6 +63,7 @@ impl<'a> Pieces<'a> {
 
     /// Goes on behind the next piece.
     pub(crate) fn pass(&mut self)
+        ensures text { Reads self.old self.new (first_piece (left_of self.old)) }
         ensures same_input { self.new.bytes ≡ self.old.bytes }
         ensures forward { self.old.at ≤ self.new.at }
         ensures within { self.new.at ≤ length self.new.bytes }
@@ -69,6 +73,8 @@ impl<'a> Pieces<'a> {
 
     /// Goes on behind the next piece where it is this text.
     pub(crate) fn take(&mut self, text: &[u8]) -> bool
+        ensures text { IsTrue result → Reads self.old self.new text.now }
+        ensures other { IsFalse result → self.new ≡ self.old }
         ensures same_input { self.new.bytes ≡ self.old.bytes }
         ensures forward { self.old.at ≤ self.new.at }
         ensures taken { IsTrue result → self.new.at ≡ self.old.at + length text.now }
@@ -84,6 +90,7 @@ impl<'a> Pieces<'a> {
 
     /// Goes on behind the next piece, which has to be this text.
     pub(crate) fn expect(&mut self, text: &[u8]) -> Result<(), Stop>
+        ensures text { OnOk result (Reads self.old self.new text.now) }
         ensures same_input { self.new.bytes ≡ self.old.bytes }
     {
         if self.take(text) {

@@ -1,14 +1,18 @@
 // The values of single pieces.
-ghost use Rattle.std.specs.Prelude.{◌≡◌, ◌<◌, ◌≤◌, ◌^◌, length, IfSome, IsTrue, unsigned_abs};
+ghost use Rattle.std.specs.Prelude.{◌≡◌, ◌<◌, ◌≤◌, ◌^◌, ◌∷◌, ◌++◌, length, slice_index, IfSome, IsTrue, unsigned_abs};
+ghost use Rattle.std.specs.Fmt.{decimal, signed_decimal};
 ghost use Rattle.std.specs.Int.{IsGcd};
 ghost use Rattle.report_form.specs.Ranges.{IsPayoff};
+ghost use Rattle.report_text.specs.NameText.{notion_name};
+ghost use Rattle.report_text.specs.PartText.{frac_text};
 
 use corr_game::Notion;
 use corr_num::{Frac, difference, gcd};
 
 /// The digits' value, where they have no leading zero and their value is below the limit.
 pub(crate) fn magnitude(digits: &[u8], limit: u128) -> Option<u128>
-    ensures { IfSome result (λ value. value < limit) }
+    ensures below { IfSome result (λ value. value < limit) }
+    ensures text { IfSome result (λ value. digits.now ≡ decimal value) }
 {
     if digits.is_empty() || (digits[0] == b'0' && digits.len() > 1) {
         return None;
@@ -28,7 +32,8 @@ pub(crate) fn magnitude(digits: &[u8], limit: u128) -> Option<u128>
 /// The value of a whole number, where its magnitude is below the limit. Zero has no sign.
 pub(crate) fn whole(word: &[u8], limit: u128) -> Option<i128>
     requires { limit ≤ 2 ^ 126 }
-    ensures { IfSome result (λ value. unsigned_abs value < limit) }
+    ensures below { IfSome result (λ value. unsigned_abs value < limit) }
+    ensures text { IfSome result (λ value. word.now ≡ signed_decimal value) }
 {
     match word {
         [b'-', digits @ ..] => negative(digits, limit),
@@ -38,7 +43,8 @@ pub(crate) fn whole(word: &[u8], limit: u128) -> Option<i128>
 
 fn negative(digits: &[u8], limit: u128) -> Option<i128>
     requires { limit ≤ 2 ^ 126 }
-    ensures { IfSome result (λ value. unsigned_abs value < limit) }
+    ensures below { IfSome result (λ value. unsigned_abs value < limit) }
+    ensures text { IfSome result (λ value. 45 ∷ digits.now ≡ signed_decimal value) }
 {
     let size = magnitude(digits, limit)?;
     if size == 0 {
@@ -49,7 +55,8 @@ fn negative(digits: &[u8], limit: u128) -> Option<i128>
 
 /// How many bytes stand before the first slash, which may be all.
 fn before_slash(word: &[u8]) -> usize
-    ensures { result ≤ length word.now }
+    ensures within { result ≤ length word.now }
+    ensures slash { result < length word.now → slice_index word.now result ≡ 47 }
 {
     let mut n = 0;
     while n < word.len() && word[n] != b'/' {
@@ -60,7 +67,8 @@ fn before_slash(word: &[u8]) -> usize
 
 /// The value of a whole number or of a quotient in lowest terms.
 pub(crate) fn fraction(word: &[u8]) -> Option<Frac>
-    ensures { IfSome result IsPayoff }
+    ensures payoff { IfSome result IsPayoff }
+    ensures text { IfSome result (λ value. word.now ≡ frac_text value) }
 {
     let (num, rest) = word.split_at(before_slash(word));
     let num = whole(num, 1 << 126)?;
@@ -72,7 +80,8 @@ pub(crate) fn fraction(word: &[u8]) -> Option<Frac>
 
 fn quotient(num: i128, den: &[u8]) -> Option<Frac>
     requires { unsigned_abs num < 2 ^ 126 }
-    ensures { IfSome result IsPayoff }
+    ensures payoff { IfSome result IsPayoff }
+    ensures text { IfSome result (λ value. signed_decimal num ++ 47 ∷ den.now ≡ frac_text value) }
 {
     let den = magnitude(den, 1 << 126)? as i128;
     if den < 2 {
@@ -92,7 +101,9 @@ pub(crate) fn are_coprime(a: i128, b: i128) -> bool
     gcd(a.unsigned_abs(), b.unsigned_abs()) == 1
 }
 
-pub(crate) fn notion(word: &[u8]) -> Option<Notion> {
+pub(crate) fn notion(word: &[u8]) -> Option<Notion>
+    ensures { IfSome result (λ notion. word.now ≡ notion_name notion) }
+{
     if word == b"efce".as_slice() {
         return Some(Notion::Efce);
     }

@@ -1,0 +1,9 @@
+-- The next piece, where it is this text, is read.
+use Rattle.report_reader.proofs.Reading.{not_other, piece_read, same_text}
+use Rattle.report_reader.proofs.pieces.Pieces.take.Goals as goal
+
+pub returns-clause-text : goal.returns-clause-text
+returns-clause-text c = λ t.
+    let same = same_text _ _ (not_other _ c.if-ne.ensures) in
+    piece_read c.self.inside.bytes.now c.self.inside.at c.next-piece.result.now c.args.text.now same c.self.view_is
+    c.next-piece.ensures.first

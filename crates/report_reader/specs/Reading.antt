@@ -1,0 +1,32 @@
+-- Text that is read: it stood in front of the bytes that were left, and those behind it are left.
+use Rattle.std.specs.Prelude.{◌≡◌, ℕ, ◌+◌, if◌then◌else◌, List, [], ◌∷◌, ◌++◌, take, drop}
+use Rattle.report_reader.specs.Cursor.{Cursor}
+use Rattle.report_reader.specs.Pieces.{is_blank}
+
+-- the bytes from the place on
+abbrev pub left_of : Cursor → List ℕ
+left_of cursor = drop cursor.at cursor.bytes
+
+-- how many bytes stand before the first blank
+abbrev pub run_length : List ℕ → ℕ
+run_length [] = 0
+run_length (byte ∷ bytes) = if is_blank byte then 0 else run_length bytes + 1
+
+-- the length of the first piece, or 0 where there is none
+abbrev pub piece_length : List ℕ → ℕ
+piece_length [] = 0
+piece_length (byte ∷ bytes) = if is_blank byte then 1 else run_length bytes + 1
+
+-- the first piece, which is empty where there is none
+abbrev pub first_piece : List ℕ → List ℕ
+first_piece bytes = take (piece_length bytes) bytes
+
+-- the text was read
+pub record Reads (old new : Cursor) (text : List ℕ) : Type 0 where
+  pub input : new.bytes ≡ old.bytes
+  pub passed : left_of old ≡ text ++ left_of new
+
+-- the text was read, but for its first bytes, which had been read before
+pub record ReadsBehind (before : List ℕ) (old new : Cursor) (text : List ℕ) : Type 0 where
+  pub input : new.bytes ≡ old.bytes
+  pub passed : before ++ left_of old ≡ text ++ left_of new
