@@ -1,7 +1,11 @@
 // Single values: each is the next piece, or the reader stops before it.
-ghost use Rattle.std.specs.Prelude.{◌≡◌, ◌≤◌, ◌<◌, ◌^◌, length, IfOk};
+ghost use Rattle.std.specs.Prelude.{◌≡◌, ◌≤◌, ◌<◌, ◌^◌, length, IfOk, OnOk, codes};
+ghost use Rattle.std.specs.Fmt.{decimal, signed_decimal};
 ghost use Rattle.corr_num.specs.Narrow.{Narrow};
 ghost use Rattle.report_form.specs.Ranges.{AreSome, IsPositive, IsAction, IsPayoff, IsRow, IsScale, notion_number};
+ghost use Rattle.report_reader.specs.Reading.{Reads, ReadsBehind};
+ghost use Rattle.report_text.specs.NameText.{notion_name};
+ghost use Rattle.report_text.specs.PartText.{action_text, frac_text, row_text};
 
 use crate::pieces::Pieces;
 use crate::refusals::Stop;
@@ -14,6 +18,7 @@ const NARROW: u128 = 1 << 62;
 
 pub(crate) fn read_int(pieces: &mut Pieces) -> Result<i128, Stop>
     ensures narrow { IfOk result (λ value. Narrow value) }
+    ensures text { IfOk result (λ value. Reads pieces.old pieces.new (signed_decimal value)) }
     ensures same_input { pieces.new.bytes ≡ pieces.old.bytes }
     ensures forward { IfOk result (λ value. pieces.old.at ≤ pieces.new.at) }
     ensures within { IfOk result (λ value. pieces.new.at ≤ length pieces.new.bytes) }
@@ -27,6 +32,7 @@ pub(crate) fn read_int(pieces: &mut Pieces) -> Result<i128, Stop>
 
 pub(crate) fn read_positive(pieces: &mut Pieces) -> Result<i128, Stop>
     ensures positive { IfOk result (λ value. IsPositive value) }
+    ensures text { IfOk result (λ value. Reads pieces.old pieces.new (signed_decimal value)) }
     ensures same_input { pieces.new.bytes ≡ pieces.old.bytes }
 {
     let Some(value) = whole(pieces.next(), NARROW) else {
@@ -43,6 +49,7 @@ pub(crate) fn read_positive(pieces: &mut Pieces) -> Result<i128, Stop>
 fn read_counted(pieces: &mut Pieces, limit: u128) -> Result<u128, Stop>
     ensures some { IfOk result (λ count. 1 ≤ count) }
     ensures below { IfOk result (λ count. count < limit) }
+    ensures text { IfOk result (λ count. Reads pieces.old pieces.new (decimal count)) }
     ensures same_input { pieces.new.bytes ≡ pieces.old.bytes }
 {
     let Some(count) = magnitude(pieces.next(), limit) else {
@@ -58,6 +65,7 @@ fn read_counted(pieces: &mut Pieces, limit: u128) -> Result<u128, Stop>
 /// How many corners or sides there are.
 pub(crate) fn read_count(pieces: &mut Pieces) -> Result<usize, Stop>
     ensures some { IfOk result AreSome }
+    ensures text { IfOk result (λ count. Reads pieces.old pieces.new (decimal count)) }
     ensures same_input { pieces.new.bytes ≡ pieces.old.bytes }
 {
     Ok(read_counted(pieces, 1 << 64)? as usize)
@@ -67,6 +75,7 @@ pub(crate) fn read_count(pieces: &mut Pieces) -> Result<usize, Stop>
 pub(crate) fn read_pair_count(pieces: &mut Pieces) -> Result<usize, Stop>
     ensures some { IfOk result (λ count. 1 ≤ count) }
     ensures few { IfOk result (λ count. count ≤ 65535) }
+    ensures text { IfOk result (λ count. Reads pieces.old pieces.new (decimal count)) }
     ensures same_input { pieces.new.bytes ≡ pieces.old.bytes }
 {
     Ok(read_counted(pieces, 65536)? as usize)
@@ -74,6 +83,7 @@ pub(crate) fn read_pair_count(pieces: &mut Pieces) -> Result<usize, Stop>
 
 pub(crate) fn read_scale(pieces: &mut Pieces) -> Result<i64, Stop>
     ensures scale { IfOk result (λ scale. IsScale scale) }
+    ensures text { IfOk result (λ scale. Reads pieces.old pieces.new (signed_decimal scale)) }
     ensures same_input { pieces.new.bytes ≡ pieces.old.bytes }
 {
     Ok(read_counted(pieces, (1 << 24) + 1)? as i64)
@@ -82,6 +92,7 @@ pub(crate) fn read_scale(pieces: &mut Pieces) -> Result<i64, Stop>
 /// The number of one of so many corners.
 pub(crate) fn read_corner_number(pieces: &mut Pieces, corners: usize) -> Result<usize, Stop>
     ensures below { IfOk result (λ number. number < corners) }
+    ensures text { IfOk result (λ number. Reads pieces.old pieces.new (decimal number)) }
     ensures same_input { pieces.new.bytes ≡ pieces.old.bytes }
 {
     let Some(number) = magnitude(pieces.next(), corners as u128) else {
@@ -93,6 +104,7 @@ pub(crate) fn read_corner_number(pieces: &mut Pieces, corners: usize) -> Result<
 
 /// A corner's own number, which is its position.
 pub(crate) fn expect_position(pieces: &mut Pieces, position: usize) -> Result<(), Stop>
+    ensures text { OnOk result (Reads pieces.old pieces.new (decimal position)) }
     ensures same_input { pieces.new.bytes ≡ pieces.old.bytes }
 {
     if magnitude(pieces.next(), 1 << 64) != Some(position as u128) {
@@ -104,6 +116,7 @@ pub(crate) fn expect_position(pieces: &mut Pieces, position: usize) -> Result<()
 
 pub(crate) fn read_fraction(pieces: &mut Pieces) -> Result<Frac, Stop>
     ensures payoff { IfOk result IsPayoff }
+    ensures text { IfOk result (λ value. Reads pieces.old pieces.new (frac_text value)) }
     ensures same_input { pieces.new.bytes ≡ pieces.old.bytes }
 {
     let Some(value) = fraction(pieces.next()) else {
@@ -116,6 +129,7 @@ pub(crate) fn read_fraction(pieces: &mut Pieces) -> Result<Frac, Stop>
 /// What a plan names at a set. The text counts actions from 1.
 pub(crate) fn read_action(pieces: &mut Pieces) -> Result<Option<u32>, Stop>
     ensures action { IfOk result (λ action. IsAction action) }
+    ensures text { IfOk result (λ action. ReadsBehind (codes " ") pieces.old pieces.new (action_text action)) }
     ensures same_input { pieces.new.bytes ≡ pieces.old.bytes }
     ensures forward { IfOk result (λ action. pieces.old.at ≤ pieces.new.at) }
     ensures within { IfOk result (λ action. pieces.new.at ≤ length pieces.new.bytes) }
@@ -137,6 +151,7 @@ pub(crate) fn read_action(pieces: &mut Pieces) -> Result<Option<u32>, Stop>
 pub(crate) fn read_column(pieces: &mut Pieces, least: u64) -> Result<u32, Stop>
     ensures least { IfOk result (λ column. least ≤ column) }
     ensures fits { IfOk result (λ column. column < 2 ^ 32) }
+    ensures text { IfOk result (λ column. Reads pieces.old pieces.new (decimal column)) }
     ensures same_input { pieces.new.bytes ≡ pieces.old.bytes }
     ensures forward { IfOk result (λ column. pieces.old.at ≤ pieces.new.at) }
     ensures within { IfOk result (λ column. pieces.new.at ≤ length pieces.new.bytes) }
@@ -153,6 +168,7 @@ pub(crate) fn read_column(pieces: &mut Pieces, least: u64) -> Result<u32, Stop>
 
 pub(crate) fn read_row(pieces: &mut Pieces) -> Result<RowName, Stop>
     ensures row { IfOk result IsRow }
+    ensures text { IfOk result (λ row. Reads pieces.old pieces.new (row_text row)) }
     ensures same_input { pieces.new.bytes ≡ pieces.old.bytes }
 {
     if pieces.take(b"first") {
@@ -182,6 +198,7 @@ pub(crate) fn number_of(notion: Notion) -> u32
 /// A notion whose number isn't below `least`.
 pub(crate) fn read_notion(pieces: &mut Pieces, least: u32) -> Result<Notion, Stop>
     ensures least { IfOk result (λ notion. least ≤ notion_number notion) }
+    ensures text { IfOk result (λ notion. Reads pieces.old pieces.new (notion_name notion)) }
     ensures same_input { pieces.new.bytes ≡ pieces.old.bytes }
 {
     let Some(notion) = notion(pieces.next()) else {
