@@ -1,8 +1,13 @@
 // The parts of a block: pairs, corners, sides.
-ghost use Rattle.std.specs.Prelude.{◌≡◌, ◌≤◌, length, All, IfOk, unsigned_abs};
+ghost use Rattle.std.specs.Prelude.{◌≡◌, ◌++◌, length, All, IfOk, OnOk, codes, unsigned_abs};
+ghost use Rattle.std.specs.Fmt.{signed_decimal};
 ghost use Rattle.std.specs.Int.{IsGcd};
 ghost use Rattle.corr_num.specs.Narrow.{Narrow};
 ghost use Rattle.report_form.specs.Ranges.{AreSome, IsPair, IsPoint, IsCorner, IsSide};
+ghost use Rattle.report_text.specs.Joined.{each_text, texts_from};
+ghost use Rattle.report_text.specs.PartText.{count_text, frac_text, int_text, pair_text, side_text};
+ghost use Rattle.report_text.specs.ReportText.{corner_text};
+ghost use Rattle.report_reader.specs.Reading.{Reads, ReadsBehind};
 
 use crate::items::{
     expect_position, read_corner_number, read_count, read_fraction, read_int, read_pair_count,
@@ -19,6 +24,7 @@ use std::alloc::Global;
 
 /// A word at the front of a line, and the space behind it.
 pub(crate) fn expect_first(pieces: &mut Pieces, word: &[u8]) -> Result<(), Stop>
+    ensures text { OnOk result (Reads pieces.old pieces.new (word.now ++ codes " ")) }
     ensures same_input { pieces.new.bytes ≡ pieces.old.bytes }
 {
     pieces.expect(word)?;
@@ -28,6 +34,7 @@ pub(crate) fn expect_first(pieces: &mut Pieces, word: &[u8]) -> Result<(), Stop>
 
 /// A word within a line, between spaces.
 pub(crate) fn expect_between(pieces: &mut Pieces, word: &[u8]) -> Result<(), Stop>
+    ensures text { OnOk result (Reads pieces.old pieces.new (codes " " ++ word.now ++ codes " ")) }
     ensures same_input { pieces.new.bytes ≡ pieces.old.bytes }
 {
     pieces.expect(b" ")?;
@@ -38,6 +45,7 @@ pub(crate) fn expect_between(pieces: &mut Pieces, word: &[u8]) -> Result<(), Sto
 /// The line that says how many corners or sides follow.
 pub(crate) fn read_count_line(pieces: &mut Pieces, word: &[u8]) -> Result<usize, Stop>
     ensures some { IfOk result AreSome }
+    ensures text { IfOk result (λ count. Reads pieces.old pieces.new (word.now ++ count_text count ++ codes "\n")) }
     ensures same_input { pieces.new.bytes ≡ pieces.old.bytes }
 {
     expect_first(pieces, word)?;
@@ -48,6 +56,7 @@ pub(crate) fn read_count_line(pieces: &mut Pieces, word: &[u8]) -> Result<usize,
 
 fn read_pair(alloc: Global, pieces: &mut Pieces) -> Result<Pair, Stop>
     ensures pair { IfOk result (λ pair. IsPair pair) }
+    ensures text { IfOk result (λ pair. Reads pieces.old pieces.new (pair_text pair)) }
     ensures same_input { pieces.new.bytes ≡ pieces.old.bytes }
 {
     expect_first(pieces, b"weight")?;
@@ -63,6 +72,7 @@ fn read_pair(alloc: Global, pieces: &mut Pieces) -> Result<Pair, Stop>
 fn read_pairs(alloc: Global, pieces: &mut Pieces, count: usize) -> Result<PairList, Stop>
     ensures pairs { IfOk result (λ pairs. All IsPair pairs) }
     ensures counted { IfOk result (λ pairs. length pairs ≡ count) }
+    ensures text { IfOk result (λ pairs. Reads pieces.old pieces.new (each_text pair_text pairs)) }
     ensures same_input { pieces.new.bytes ≡ pieces.old.bytes }
 {
     let mut pairs = PairList::new(alloc);
@@ -74,6 +84,7 @@ fn read_pairs(alloc: Global, pieces: &mut Pieces, count: usize) -> Result<PairLi
 
 fn read_point(pieces: &mut Pieces) -> Result<Point, Stop>
     ensures point { IfOk result IsPoint }
+    ensures text { IfOk result (λ point. Reads pieces.old pieces.new (frac_text point.one ++ codes " " ++ frac_text point.two)) }
     ensures same_input { pieces.new.bytes ≡ pieces.old.bytes }
 {
     let one = read_fraction(pieces)?;
@@ -84,6 +95,7 @@ fn read_point(pieces: &mut Pieces) -> Result<Point, Stop>
 
 fn read_corner(alloc: Global, pieces: &mut Pieces, position: usize) -> Result<Corner, Stop>
     ensures corner { IfOk result (λ corner. IsCorner corner) }
+    ensures text { IfOk result (λ corner. Reads pieces.old pieces.new (corner_text position corner)) }
     ensures same_input { pieces.new.bytes ≡ pieces.old.bytes }
 {
     expect_first(pieces, b"corner")?;
@@ -110,6 +122,7 @@ pub(crate) fn read_corners(
 ) -> Result<Corners, Stop>
     ensures corners { IfOk result (λ corners. All IsCorner corners) }
     ensures counted { IfOk result (λ corners. length corners ≡ count) }
+    ensures text { IfOk result (λ corners. Reads pieces.old pieces.new (texts_from corner_text 0 corners)) }
     ensures same_input { pieces.new.bytes ≡ pieces.old.bytes }
 {
     let mut corners = Corners::new(alloc);
@@ -123,6 +136,7 @@ pub(crate) fn read_corners(
 fn read_coprime(pieces: &mut Pieces, a: i128) -> Result<i128, Stop>
     ensures narrow { IfOk result (λ b. Narrow b) }
     ensures coprime { IfOk result (λ b. IsGcd (unsigned_abs a) (unsigned_abs b) 1) }
+    ensures text { IfOk result (λ b. Reads pieces.old pieces.new (signed_decimal b)) }
     ensures same_input { pieces.new.bytes ≡ pieces.old.bytes }
 {
     let Some(b) = whole(pieces.next(), 1 << 62) else {
@@ -138,6 +152,7 @@ fn read_coprime(pieces: &mut Pieces, a: i128) -> Result<i128, Stop>
 /// A direction, whose two numbers are coprime.
 fn read_direction(pieces: &mut Pieces) -> Result<Dir, Stop>
     ensures coprime { IfOk result (λ dir. IsGcd (unsigned_abs dir.a) (unsigned_abs dir.b) 1) }
+    ensures text { IfOk result (λ dir. ReadsBehind (codes " ") pieces.old pieces.new (int_text dir.a ++ int_text dir.b)) }
     ensures same_input { pieces.new.bytes ≡ pieces.old.bytes }
 {
     let a = read_int(pieces)?;
@@ -148,6 +163,7 @@ fn read_direction(pieces: &mut Pieces) -> Result<Dir, Stop>
 
 fn read_side(alloc: Global, pieces: &mut Pieces, corners: usize) -> Result<SideRow, Stop>
     ensures side { IfOk result (λ side. IsSide corners side) }
+    ensures text { IfOk result (λ side. Reads pieces.old pieces.new (side_text side)) }
     ensures same_input { pieces.new.bytes ≡ pieces.old.bytes }
 {
     expect_first(pieces, b"side")?;
@@ -178,6 +194,7 @@ pub(crate) fn read_sides(
 ) -> Result<SideList, Stop>
     ensures sides { IfOk result (λ sides. All (IsSide corners) sides) }
     ensures counted { IfOk result (λ sides. length sides ≡ count) }
+    ensures text { IfOk result (λ sides. Reads pieces.old pieces.new (each_text side_text sides)) }
     ensures same_input { pieces.new.bytes ≡ pieces.old.bytes }
 {
     let mut sides = SideList::new(alloc);
