@@ -1,5 +1,7 @@
-ghost use Rattle.std.specs.Prelude.{◌≡◌, ◌≤◌, IfOk};
+ghost use Rattle.std.specs.Prelude.{◌≡◌, ◌≤◌, IfOk, codes};
 ghost use Rattle.report_form.specs.Ranges.{IsBlock, notion_number};
+ghost use Rattle.report_text.specs.ReportText.{block_text, named_block_text};
+ghost use Rattle.report_reader.specs.Reading.{Reads, ReadsBehind};
 
 use crate::items::{read_column, read_notion, read_row};
 use crate::lines::{read_corners, read_count_line, read_sides};
@@ -12,6 +14,7 @@ use std::alloc::Global;
 
 fn read_polygon(alloc: Global, pieces: &mut Pieces) -> Result<Block, Stop>
     ensures block { IfOk result (λ block. IsBlock block) }
+    ensures text { IfOk result (λ block. ReadsBehind (codes " found") pieces.old pieces.new (block_text block)) }
     ensures same_input { pieces.new.bytes ≡ pieces.old.bytes }
 {
     pieces.expect(b"\n")?;
@@ -24,6 +27,7 @@ fn read_polygon(alloc: Global, pieces: &mut Pieces) -> Result<Block, Stop>
 
 fn read_empty(alloc: Global, pieces: &mut Pieces) -> Result<Block, Stop>
     ensures block { IfOk result (λ block. IsBlock block) }
+    ensures text { IfOk result (λ block. ReadsBehind (codes " empty") pieces.old pieces.new (block_text block)) }
     ensures same_input { pieces.new.bytes ≡ pieces.old.bytes }
 {
     pieces.expect(b"\n")?;
@@ -34,6 +38,7 @@ fn read_empty(alloc: Global, pieces: &mut Pieces) -> Result<Block, Stop>
 
 fn read_too_wide(alloc: Global, pieces: &mut Pieces) -> Result<Block, Stop>
     ensures block { IfOk result (λ block. IsBlock block) }
+    ensures text { IfOk result (λ block. ReadsBehind (codes " toowide") pieces.old pieces.new (block_text block)) }
     ensures same_input { pieces.new.bytes ≡ pieces.old.bytes }
 {
     pieces.expect(b"\n")?;
@@ -53,6 +58,7 @@ fn read_too_wide(alloc: Global, pieces: &mut Pieces) -> Result<Block, Stop>
 
 fn read_block(alloc: Global, pieces: &mut Pieces) -> Result<Block, Stop>
     ensures block { IfOk result (λ block. IsBlock block) }
+    ensures text { IfOk result (λ block. ReadsBehind (codes " ") pieces.old pieces.new (block_text block)) }
     ensures same_input { pieces.new.bytes ≡ pieces.old.bytes }
 {
     if pieces.take(b"found") {
@@ -73,6 +79,7 @@ pub(crate) fn read_named_block(
 ) -> Result<NamedBlock, Stop>
     ensures least { IfOk result (λ named. least ≤ notion_number named.notion) }
     ensures block { IfOk result (λ named. IsBlock named.block) }
+    ensures text { IfOk result (λ named. ReadsBehind (codes "notion") pieces.old pieces.new (named_block_text named)) }
     ensures same_input { pieces.new.bytes ≡ pieces.old.bytes }
 {
     pieces.expect(b" ")?;

@@ -2,9 +2,10 @@
 //! format.
 //!
 //! It stands on `report_form` for the values. `report_text` writes what is read here, and holds the definition of the text.
-//! The one call is `read_report`; what it hands on is that the report's numbers are in the ranges of `IsReport`. Which report some
-//! bytes begin with, and the place where they leave the format, is defined in specs/Syntax; by laws there is one such place at
-//! most, and none where a report is read. That `read_report` answers these isn't proved yet.
+//! The one call is `read_report`. A report that it reads is in the ranges of `IsReport`, and its text is a front of the bytes;
+//! each function says by `Reads` of specs/Reading which text it has read. Which report some bytes begin with, and the place where
+//! they leave the format, is defined in specs/Syntax; by laws there is one such place at most, and none where a report is read.
+//! That a refusal's place is that one isn't proved yet.
 #![tactic(auto)]
 
 mod blocks;

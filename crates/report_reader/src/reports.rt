@@ -1,6 +1,10 @@
 ghost use Rattle.std.specs.Prelude.{◌≡◌, ◌≤◌, length, IfOk, IfErr};
-ghost use Rattle.report_form.specs.Ranges.{InOrderFrom};
+ghost use Rattle.report_form.specs.Ranges.{InOrderFrom, IsReport};
+ghost use Rattle.report_text.specs.Joined.{each_text};
+ghost use Rattle.report_text.specs.ReportText.{named_block_text, report_text};
 ghost use Rattle.report_reader.specs.Place.{IsPlace};
+ghost use Rattle.report_reader.specs.Reading.{Reads};
+ghost use Rattle.report_reader.specs.Syntax.{IsReadFrom};
 
 use crate::blocks::read_named_block;
 use crate::items::{number_of, read_scale};
@@ -14,6 +18,7 @@ use std::alloc::Global;
 fn read_blocks(alloc: Global, pieces: &mut Pieces) -> Result<BlockList, Stop>
     ensures in_order { IfOk result (λ blocks. InOrderFrom 0 blocks) }
     ensures some { IfOk result (λ blocks. 1 ≤ length blocks) }
+    ensures text { IfOk result (λ blocks. Reads pieces.old pieces.new (each_text named_block_text blocks)) }
     ensures same_input { pieces.new.bytes ≡ pieces.old.bytes }
 {
     let mut blocks = BlockList::new(alloc);
@@ -30,6 +35,8 @@ fn read_blocks(alloc: Global, pieces: &mut Pieces) -> Result<BlockList, Stop>
 }
 
 fn read_whole(alloc: Global, pieces: &mut Pieces) -> Result<Report, Stop>
+    ensures report { IfOk result (λ report. IsReport report) }
+    ensures text { IfOk result (λ report. Reads pieces.old pieces.new (report_text report)) }
     ensures same_input { pieces.new.bytes ≡ pieces.old.bytes }
 {
     expect_first(pieces, b"corr-report")?;
@@ -50,6 +57,7 @@ fn read_whole(alloc: Global, pieces: &mut Pieces) -> Result<Report, Stop>
 ///
 /// Nothing is reserved from a count that the text claims: a list grows only with what is read.
 pub fn read_report(alloc: Global, bytes: &[u8]) -> Result<(Report, usize), ReportRefusal>
+    ensures read { IfOk result (λ it. IsReadFrom bytes.now it.0 it.1) }
     ensures within { IfOk result (λ it. it.1 ≤ length bytes.now) }
     ensures place { IfErr result (λ refusal. IsPlace (length bytes.now) refusal) }
 {
