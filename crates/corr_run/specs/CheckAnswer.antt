@@ -9,8 +9,8 @@ use Rattle.connected_pairs.specs.Connected.{PairsView}
 use Rattle.corr_game.specs.Game.{GameView}
 use Rattle.report_form.specs.declared.refusals.Refusal.{Refusal}
 use Rattle.report_form.specs.declared.refusals.Refusal.TheVariants.{Report}
-use Rattle.report_form.specs.Ranges.{IsReport}
 use Rattle.report_form.specs.View.{ReportView}
+use Rattle.report_reader.specs.Syntax.{IsReadFrom}
 use Rattle.report_text.specs.RefusalText.{refusal_text}
 use Rattle.corr_run.specs.declared.status.Status.{Status}
 use Rattle.corr_run.specs.declared.status.Status.TheVariants.{Yes, No, Refused, TooWide}
@@ -34,18 +34,13 @@ pub record IsVerdict (g : GameView) (p : PairsView) (report : ReportView) (given
   pub whole : given ≡ verdict.Yes → NoneTooWide report.blocks
   pub partly : given ≡ verdict.Partial → NoneTooWide report.blocks → ⊥
 
--- a report in its ranges was read from the front of the input, up to this place
-pub record IsReadUpTo (input : List ℕ) (place : ℕ) (report : ReportView) : Type 0 where
-  pub within : place ≤ length input
-  pub ranges : IsReport report
-
--- the text and the status that `check` gives to its input: of a report with a game's file behind it the file's first refusal, under
--- the report's notions, or a verdict on the report
+-- the text and the status that `check` gives to its input: of the report whose text is its front, with a game's file behind it, the
+-- file's first refusal, under the report's notions, or a verdict on the report
 pub data CheckAnswer (input text : List ℕ) (status : Status) : Type 0 where
   too_long : 2 ^ 30 < length input → text ≡ report_too_long_line → status ≡ Refused → CheckAnswer input text status
   no_report : length input ≤ 2 ^ 30 → (at : ℕ) → at ≤ length input → text ≡ refusal_text (Report at) → status ≡ Refused → CheckAnswer input text status
-  refused : length input ≤ 2 ^ 30 → (place : ℕ) (report : ReportView) → IsReadUpTo input place report
+  refused : length input ≤ 2 ^ 30 → (place : ℕ) (report : ReportView) → IsReadFrom input report place
       → (refusal : Refusal) → IsFirstRefusal (notions_of report.blocks) (drop place input) refusal → text ≡ refusal_text refusal → status ≡ Refused → CheckAnswer input text status
-  judged : length input ≤ 2 ^ 30 → (place : ℕ) (report : ReportView) → IsReadUpTo input place report
+  judged : length input ≤ 2 ^ 30 → (place : ℕ) (report : ReportView) → IsReadFrom input report place
       → (g : GameView) (p : PairsView) → IsGameFor (notions_of report.blocks) (drop place input) g p
       → (given : Verdict) → IsVerdict g p report given → text ≡ verdict_text given report.blocks → status ≡ verdict_status given → CheckAnswer input text status

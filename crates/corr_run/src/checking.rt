@@ -1,7 +1,7 @@
 // The answer to a report with its game's file behind it.
 ghost use Rattle.std.specs.Prelude.{◌≡◌, ◌^◌, ◌≤◌, drop, IfOk, length, MatchOption, true};
 ghost use Rattle.connected_pairs.specs.Connected.{IsPairsOf};
-ghost use Rattle.report_form.specs.Ranges.{IsReport};
+ghost use Rattle.report_reader.specs.Syntax.{IsReadFrom};
 ghost use Rattle.corr_run.specs.CheckAnswer.{CheckAnswer, verdict_status};
 ghost use Rattle.corr_run.specs.FirstRefusal.{IsOfSizes};
 ghost use Rattle.corr_run.specs.GameOfFile.{IsGameOfBytes};
@@ -54,7 +54,7 @@ fn judged(
     ready: &Ready,
 ) -> Result<Answer, AllocError>
     requires short { length input.now ≤ 2 ^ 30 }
-    requires within { place ≤ length input.now }
+    requires read { IsReadFrom input.now report.now place }
     requires game { IsGameOfBytes (drop place input.now) ready.now.game ready.now.pairs }
     ensures { IfOk result (λ answer. CheckAnswer input.now answer.text.items answer.status) }
 {
@@ -79,7 +79,7 @@ fn report_answer(
 ) -> Result<Answer, AllocError>
     requires short { length input.now ≤ 2 ^ 30 }
     requires within { place ≤ length input.now }
-    requires ranges { IsReport report.now }
+    requires read { IsReadFrom input.now report.now place }
     ensures { IfOk result (λ answer. CheckAnswer input.now answer.text.items answer.status) }
 {
     match prepare(alloc, input.split_at(place).1) {

@@ -11,13 +11,13 @@ check-requires-clause-sizes c =
 pub returns-in-Some : goal.returns-in-Some
 returns-in-Some c =
     let first = of_sizes c.args.ready.now.game c.args.ready.now.pairs c.requires.game (rw (c.in-Some.is, c.blocks-2.ensures.blocks) at c.report_size_refusal.ensures) in
-    refused c.requires.short c.args.place c.args.report.now (record { within = c.requires.within; ranges = c.blocks-2.ensures.rules })
+    refused c.requires.short c.args.place c.args.report.now c.requires.read
     c.in-Some.refusal first c.in_ok-answer.ensures.text c.in_ok-answer.ensures.status
 
 pub returns : goal.returns
 returns c =
     let sizes = rw (c.in_default.is, c.blocks-2.ensures.blocks) at c.report_size_refusal.ensures in
-    judged c.requires.short c.args.place c.args.report.now (record { within = c.requires.within; ranges = c.blocks-2.ensures.rules })
+    judged c.requires.short c.args.place c.args.report.now c.requires.read
     c.args.ready.now.game c.args.ready.now.pairs (record { game = c.requires.game; fit = sizes })
     c.in_ok-verdict.verdict
     (record {
