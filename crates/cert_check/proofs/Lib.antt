@@ -1,6 +1,14 @@
 mod CertifiedSides
 mod Faultless
 mod FirstBroken
+pub mod GainFollowed
+pub mod GainPast
+pub mod GreatestSets
+pub mod GreatestSteps
+pub mod LeftLists
+pub mod LeftPairs
+pub mod LeftStart
+pub mod LeftSteps
 mod ColumnSums
 mod OneFault
 mod OneVerdict

@@ -1,11 +1,17 @@
 // What leaving the mediator at a trigger pays, and what following does.
-ghost use Rattle.std.specs.Prelude.{◌≡◌, ◌⊎◌, ◌+◌, ◌*◌, ◌^◌, ◌<◌, ◌≤◌, length, take, slice_index_or, pos, unsigned_abs, IfOk};
+ghost use Rattle.std.specs.Prelude.{◌≡◌, ◌⊎◌, ◌↔◌, ◌+◌, ◌*◌, ◌^◌, ◌<◌, ◌≤◌, Bool, true, nat_eq, cond, ℕ, length, take};
+ghost use Rattle.std.specs.Prelude.{slice_get, slice_index, slice_index_or, ℤ, pos, ◌+ℤ◌, ◌*ℤ◌, ◌≤ℤ◌, unsigned_abs, IfOk, IsTrue, All};
+ghost use Rattle.exact_algebra.specs.Sums.{sum_to};
 ghost use Rattle.corr_game.specs.Plan.{plan_of};
 ghost use Rattle.corr_game.specs.Node.{amount_of};
 ghost use Rattle.corr_num.specs.Narrow.{Narrow};
-ghost use Rattle.sequences.specs.Number.{count_of, side_of};
+ghost use Rattle.sequences.specs.Number.{IsSide, Plays, count_of, side_of};
 ghost use Rattle.connected_pairs.specs.Connected.{IsPairsOf, other};
+ghost use Rattle.equilibrium.specs.Distribution.{entries_of};
+ghost use Rattle.report_form.specs.Ranges.{IsPair};
 ghost use Rattle.cert_check.specs.Planned.{AreDrawn, IsDrawn, IsPlanned};
+ghost use Rattle.cert_check.specs.Leaving.{GrowBy, IsGoneOver, IsLeft, IsPast, IsWorth, FollowsTo, PlanTest, StandInRow, TellsFollowed, TellsLeft};
+ghost use Rattle.cert_check.specs.Leaving.{paid_behind, paid_in_list, paid_in_pair};
 ghost use Rattle.cert_check.specs.Reach.{reach};
 ghost use Rattle.cert_check.specs.Triggers.{IsKnown};
 
@@ -36,6 +42,11 @@ pub fn best_left(
     requires whose { IsPairsOf game.now pairs.now }
     requires drawn { AreDrawn game.now list.now }
     requires known { IsKnown pairs.now.seqs trigger.now }
+    ensures worth { IfOk result (λ best. (passes : PlanTest)
+        → TellsLeft pairs.now.seqs trigger.now.side trigger.now.seq (length game.now.nodes) passes → All IsPair list.now
+        → StandInRow (side_of trigger.now.side pairs.now.seqs).places
+        → IsWorth (side_of trigger.now.side pairs.now.seqs).places (paid_behind (side_of trigger.now.side pairs.now.seqs).nodes
+        (paid_in_list trigger.now.side game.now passes (entries_of list.now)) (length game.now.nodes)) trigger.now.set best) }
 {
     let mut left = left_sums(alloc, game, pairs, list, trigger)?;
     Ok(best_from(pairs.seqs(), trigger, &mut left))
@@ -52,9 +63,14 @@ fn left_sums(
     requires whose { IsPairsOf game.now pairs.now }
     requires drawn { AreDrawn game.now list.now }
     requires known { IsKnown pairs.now.seqs trigger.now }
+    ensures rules { IfOk result (λ _. IsSide (side_of trigger.now.side pairs.now.seqs)) }
     ensures count { IfOk result (λ left. length left.items ≡ count_of (side_of trigger.now.side pairs.now.seqs)) }
     ensures few { IfOk result (λ left. length left.items ≤ 4096) }
     ensures bound { IfOk result (λ left. reach left.items ≤ 2 ^ 118) }
+    ensures sums { IfOk result (λ left. (passes : PlanTest) → TellsLeft pairs.now.seqs trigger.now.side trigger.now.seq (length game.now.nodes) passes
+        → All IsPair list.now → (q : ℕ) → q < length left.items → slice_index_or left.items q (pos 0)
+        ≡ paid_behind (side_of trigger.now.side pairs.now.seqs).nodes
+        (paid_in_list trigger.now.side game.now passes (entries_of list.now)) (length game.now.nodes) q) }
 {
     let count = pairs.seqs().count(trigger.side);
     let mut left: Vec<i128> = vec![in alloc; 0; count as usize]?;
@@ -73,6 +89,9 @@ fn add_pair(game: &Game, pairs: &Pairs, trigger: &Trigger, pair: &Pair, left: &m
     requires room { reach left.old.items ≤ 2 ^ 120 }
     ensures count { length left.new.items ≡ length left.old.items }
     ensures bound { reach left.new.items ≤ reach left.old.items + 4096 * 2 ^ 90 }
+    ensures sums { (passes : PlanTest) → TellsLeft pairs.now.seqs trigger.now.side trigger.now.seq (length game.now.nodes) passes
+        → GrowBy (paid_behind (side_of trigger.now.side pairs.now.seqs).nodes
+        (paid_in_pair trigger.now.side game.now passes pair.now) (length game.now.nodes)) left.old.items left.new.items }
 {
     let side = trigger.side;
     if pairs.seqs().plays(side, plan_of(side, pair), trigger.seq) {
@@ -95,6 +114,11 @@ fn add_leaf(game: &Game, pairs: &Pairs, at: (Side, u32), paid: (&Pair, &Pay), le
     requires room { reach left.old.items ≤ 2 ^ 121 }
     ensures count { length left.new.items ≡ length left.old.items }
     ensures bound { reach left.new.items ≤ reach left.old.items + 2 ^ 90 }
+    ensures sums { (plays : Bool) → (plays ≡ true)
+        ↔ Plays (side_of (other at.0) pairs.now.seqs) (plan_of (other at.0) paid.entry.0.now.one paid.entry.0.now.two)
+        (slice_index (side_of (other at.0) pairs.now.seqs).nodes at.1)
+        → GrowBy (λ q. cond (nat_eq (slice_index (side_of at.0 pairs.now.seqs).nodes at.1) q)
+        (amount_of at.0 paid.entry.1.now *ℤ cond plays paid.entry.0.now.weight (pos 0)) (pos 0)) left.old.items left.new.items }
 {
     let beside = other_side(at.0);
     let against = plan_of(beside, paid.0);
@@ -115,6 +139,10 @@ fn best_from(seqs: &Seqs, trigger: &Trigger, left: &mut Vec<i128>) -> i128
     requires few { length left.old.items ≤ 4096 }
     requires room { reach left.old.items ≤ 2 ^ 120 }
     ensures bound { unsigned_abs result ≤ 2 ^ 120 }
+    ensures worth { (paid : ℕ → ℤ) → StandInRow (side_of trigger.now.side seqs.now).places
+        → IsLeft (side_of trigger.now.side seqs.now).places (length left.old.items) trigger.now.set
+        → IsGoneOver (side_of trigger.now.side seqs.now).places paid left.old.items
+        → IsWorth (side_of trigger.now.side seqs.now).places paid trigger.now.set result }
 {
     match seqs.last(trigger.side, left.len() as u32 - 1) {
         None => left[0],
@@ -136,6 +164,8 @@ fn best_from(seqs: &Seqs, trigger: &Trigger, left: &mut Vec<i128>) -> i128
 fn greatest_behind(left: &[i128], first: usize) -> i128
     requires some { first < length left.now }
     ensures bound { unsigned_abs result + reach (take first left.now) ≤ reach left.now }
+    ensures over { (k : ℕ) → first ≤ k → k < length left.now → slice_index_or left.now k (pos 0) ≤ℤ result }
+    ensures met { (k : ℕ) × (first ≤ k) × (k < length left.now) × (result ≡ slice_index_or left.now k (pos 0)) }
 {
     let mut best = left[first];
     for k in first + 1..left.len() {
@@ -145,7 +175,8 @@ fn greatest_behind(left: &[i128], first: usize) -> i128
 }
 
 fn greater(a: i128, b: i128) -> i128
-    ensures { (result ≡ a) ⊎ (result ≡ b) }
+    ensures one_of { (result ≡ a) ⊎ (result ≡ b) }
+    ensures over { (a ≤ℤ result) × (b ≤ℤ result) }
 {
     if a < b { b } else { a }
 }
@@ -155,6 +186,9 @@ pub fn followed(game: &Game, pairs: &Pairs, list: &PairList, trigger: &Trigger) 
     requires whose { IsPairsOf game.now pairs.now }
     requires drawn { AreDrawn game.now list.now }
     requires known { IsKnown pairs.now.seqs trigger.now }
+    ensures value { (passes : PlanTest)
+        → TellsFollowed pairs.now.seqs trigger.now.side trigger.now.set trigger.now.seq (length game.now.nodes) passes → All IsPair list.now
+        → result ≡ sum_to (length game.now.nodes) (λ n. paid_in_list trigger.now.side game.now passes (entries_of list.now) n) }
 {
     let mut total = 0;
     for k in 0..list.len() {
@@ -170,6 +204,9 @@ fn follow_pair(game: &Game, pairs: &Pairs, trigger: &Trigger, pair: &Pair, befor
     requires known { IsKnown pairs.now.seqs trigger.now }
     requires room { unsigned_abs before ≤ 2 ^ 120 }
     ensures bound { unsigned_abs result ≤ unsigned_abs before + 4096 * 2 ^ 90 }
+    ensures value { (passes : PlanTest)
+        → TellsFollowed pairs.now.seqs trigger.now.side trigger.now.set trigger.now.seq (length game.now.nodes) passes
+        → result ≡ before +ℤ sum_to (length game.now.nodes) (λ n. paid_in_pair trigger.now.side game.now passes pair.now n) }
 {
     let mut total = before;
     for n in 0..game.len() {
@@ -196,6 +233,11 @@ fn follow_leaf(
     requires second { unsigned_abs paid.1.now.two ≤ 2 ^ 28 }
     requires room { unsigned_abs before ≤ 2 ^ 121 }
     ensures bound { unsigned_abs result ≤ unsigned_abs before + 2 ^ 90 }
+    ensures value { (passes : Bool) → (passes ≡ true)
+        ↔ FollowsTo pairs.now.seqs at.entry.0.now.side at.entry.0.now.set at.entry.0.now.seq at.entry.1
+        (plan_of at.entry.0.now.side paid.entry.0.now.one paid.entry.0.now.two)
+        (plan_of (other at.entry.0.now.side) paid.entry.0.now.one paid.entry.0.now.two)
+        → result ≡ before +ℤ amount_of at.entry.0.now.side paid.entry.1.now *ℤ cond passes paid.entry.0.now.weight (pos 0) }
 {
     let (trigger, n) = at;
     if follows(game, pairs, trigger, paid.0, n) {
@@ -211,6 +253,8 @@ fn follows(game: &Game, pairs: &Pairs, trigger: &Trigger, pair: &Pair, n: u32) -
     requires planned { IsPlanned game.now pair.now }
     requires known { IsKnown pairs.now.seqs trigger.now }
     requires leaf { n < length game.now.nodes }
+    ensures exact { IsTrue result ↔ FollowsTo pairs.now.seqs trigger.now.side trigger.now.set trigger.now.seq n
+        (plan_of trigger.now.side pair.now.one pair.now.two) (plan_of (other trigger.now.side) pair.now.one pair.now.two) }
 {
     let (seqs, side) = (pairs.seqs(), trigger.side);
     let beside = other_side(side);
@@ -230,6 +274,7 @@ fn seq_at(game: &Game, pairs: &Pairs, side: Side, n: u32) -> u32
     requires whose { IsPairsOf game.now pairs.now }
     requires node { n < length game.now.nodes }
     ensures in_range { result < count_of (side_of side pairs.now.seqs) }
+    ensures number { result ≡ slice_index (side_of side pairs.now.seqs).nodes n }
 {
     let _ = game;
     let count = pairs.seqs().count(side);
@@ -242,6 +287,7 @@ fn seq_at(game: &Game, pairs: &Pairs, side: Side, n: u32) -> u32
 fn is_past(seqs: &Seqs, trigger: &Trigger, seq: u32) -> bool
     requires known { IsKnown seqs.now trigger.now }
     requires in_range { seq < count_of (side_of trigger.now.side seqs.now) }
+    ensures exact { IsTrue result ↔ IsPast (side_of trigger.now.side seqs.now) trigger.now.set seq }
 {
     let Some(set) = trigger.set else {
         return true;
