@@ -26,7 +26,7 @@ use Rattle.equilibrium_solutions.proofs.Under.{is_at, under_by_moves}
 abbrev Moves : Type 0
 Moves = List (SetId × ℕ)
 
-ends_rise : (sets : List SetInfo) (a b : ℕ) → a ≤ b → ends_before sets a ≤ ends_before sets b
+pub ends_rise : (sets : List SetInfo) (a b : ℕ) → a ≤ b → ends_before sets a ≤ ends_before sets b
 ends_rise sets a b low =
     let actions = λ (info : SetInfo). info.actions in
     let part = ap (sum_by actions) (take-take a b sets low) in

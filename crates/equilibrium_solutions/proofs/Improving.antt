@@ -31,20 +31,20 @@ use Rattle.equilibrium_solutions.proofs.Solving.{bounded_by_values, solved}
 
 -- ---- choices as functions and as lists
 
-abbrev listed : ℕ → (ℕ → ℕ) → List ℕ
+abbrev pub listed : ℕ → (ℕ → ℕ) → List ℕ
 listed zero f = []
 listed (suc n) f = f 0 ∷ listed n (λ k. f (suc k))
 
-listed-length : (n : ℕ) (f : ℕ → ℕ) → length (listed n f) ≡ n
+pub listed-length : (n : ℕ) (f : ℕ → ℕ) → length (listed n f) ≡ n
 listed-length zero f = refl
 listed-length (suc n) f = ap suc (listed-length n (λ k. f (suc k)))
 
-listed-at : (n : ℕ) (f : ℕ → ℕ) (k : ℕ) → k < n → slice_index (listed n f) k ≡ f k
+pub listed-at : (n : ℕ) (f : ℕ → ℕ) (k : ℕ) → k < n → slice_index (listed n f) k ≡ f k
 listed-at zero f k h = absurd (omega arith)
 listed-at (suc n) f zero h = refl
 listed-at (suc n) f (suc k) h = listed-at n (λ j. f (suc j)) k (omega arith)
 
-listed-get : (n : ℕ) (f : ℕ → ℕ) (k a : ℕ) → slice_get (listed n f) k ≡ Some a → a ≡ f k
+pub listed-get : (n : ℕ) (f : ℕ → ℕ) (k a : ℕ) → slice_get (listed n f) k ≡ Some a → a ≡ f k
 listed-get zero f k a e = absurd (cc)
 listed-get (suc n) f zero a e = cc
 listed-get (suc n) f (suc k) a e = listed-get n (λ j. f (suc j)) k a e
@@ -59,22 +59,22 @@ takes_same d rules c e same bound (move ∷ before) back low =
     let rest = takes_same d rules c e same move.0.0 before (subst Back back.2 (rules.each_set move.0.0 under)) (omega arith) in
     rw (same move.0.0 under, rest) refl
 
-gets_same : (d : Decision) → IsDecision d → (c e : ℕ → ℕ) → ((set : ℕ) → set < d.sets → c set ≡ e set) → gets d c ≡ gets d e
+pub gets_same : (d : Decision) → IsDecision d → (c e : ℕ → ℕ) → ((set : ℕ) → set < d.sets → c set ≡ e set) → gets d c ≡ gets d e
 gets_same d rules c e same =
     sum_to-same d.leaves _ _ (λ n low.
     ap (λ (t : Bool). cond (counts d n && t) (d.pays n) (pos 0))
     (takes_same d rules c e same d.sets (d.before_leaf n) (rules.each_leaf n low) (omega arith)))
 
 -- the actions of a set that is there
-actions_of : (sets : List SetInfo) (set : ℕ) (info : SetInfo) → slice_get sets set ≡ Some info → actions_there (slice_get sets set) ≡ info.actions
+pub actions_of : (sets : List SetInfo) (set : ℕ) (info : SetInfo) → slice_get sets set ≡ Some info → actions_there (slice_get sets set) ≡ info.actions
 actions_of sets set info e = rw e refl
 
-info_at : (sets : List SetInfo) (k : ℕ) → k < length sets → (info : SetInfo) × (slice_get sets k ≡ Some info)
+pub info_at : (sets : List SetInfo) (k : ℕ) → k < length sets → (info : SetInfo) × (slice_get sets k ≡ Some info)
 info_at [] k h = absurd (omega arith)
 info_at (info ∷ sets) zero h = (info, refl)
 info_at (info ∷ sets) (suc k) h = info_at sets k (omega arith)
 
-read_at : (list : List ℕ) (k : ℕ) → k < length list → slice_get list k ≡ Some (slice_index list k)
+pub read_at : (list : List ℕ) (k : ℕ) → k < length list → slice_get list k ≡ Some (slice_index list k)
 read_at [] k h = absurd (omega arith)
 read_at (x ∷ xs) zero h = refl
 read_at (x ∷ xs) (suc k) h = read_at xs k (omega arith)

@@ -127,7 +127,7 @@ at_top top None move h = eqb-true move.0.0 top h
 at_top top (Some action) move h = eqb-true move.0.0 top (first_true (nat_eq move.0.0 top) _ h)
 
 -- a move that takes an action at a set is at the set
-some_weaker : (top : ℕ) (action : Option ℕ) (moves : Moves) → some_move (is_move top action) moves ≡ true
+pub some_weaker : (top : ℕ) (action : Option ℕ) (moves : Moves) → some_move (is_move top action) moves ≡ true
     → some_move (is_move top None) moves ≡ true
 some_weaker top action [] h = h
 some_weaker top action (move ∷ before) h = elim (or_cases (is_move top action move) (some_move (is_move top action) before) h) [
@@ -173,7 +173,7 @@ module _ (side : Side) (g : GameView) (plan : Plan) where
   one_named a b (Some (Some named)) h k = sym (eqb-true named a h) ∙ eqb-true named b k
 
   -- a plan that names an action at a set takes it there by the moves that it names
-  taken_there : (top action : ℕ) (moves : Moves) → names action (slice_get plan top) ≡ true → names_all plan moves ≡ true
+  pub taken_there : (top action : ℕ) (moves : Moves) → names action (slice_get plan top) ≡ true → names_all plan moves ≡ true
       → some_move (is_move top None) moves ≡ true → some_move (is_move top (Some action)) moves ≡ true
   taken_there top action [] told named h = absurd (cc)
   taken_there top action (move ∷ before) told named h = elim (or_cases (nat_eq move.0.0 top) (some_move (is_move top None) before) h) [
