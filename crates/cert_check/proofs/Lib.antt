@@ -1,8 +1,13 @@
 mod CertifiedSides
 mod Faultless
 mod FirstBroken
+pub mod GainExact
 pub mod GainFollowed
+pub mod GainNumbers
 pub mod GainPast
+pub mod GainRow
+pub mod GainTriggers
+pub mod GainValues
 pub mod GreatestSets
 pub mod GreatestSteps
 pub mod LeftLists

@@ -2,6 +2,7 @@ pub mod Bounds
 pub mod Certified
 pub mod CornerRules
 pub mod Fits
+pub mod Gains
 pub mod Leaving
 pub mod Planned
 pub mod Products

@@ -1,7 +1,16 @@
 // Whether a player gains by a deviation of a notion, one trigger at a time.
-ghost use Rattle.std.specs.Prelude.{◌≡◌, ◌<◌, length, slice_get, Some};
+ghost use Rattle.std.specs.Prelude.{◌≡◌, ◌↔◌, ◌<◌, false, All, length, slice_get, IfOk, Some};
 ghost use Rattle.corr_game.specs.declared.nodes.SetInfo.{SetInfo};
-ghost use Rattle.sequences.specs.Number.{count_of, side_of};
+ghost use Rattle.sequences.specs.Number.{Ends, count_of, side_of};
+ghost use Rattle.equilibrium.specs.declared.triggers.Trigger.{Trigger as Deviation};
+ghost use Rattle.equilibrium.specs.Deviation.{IsTriggerOf};
+ghost use Rattle.equilibrium.specs.Distribution.{IsEntry, entries_of};
+ghost use Rattle.equilibrium.specs.Equilibrium.{NoneImproves, no_slack};
+ghost use Rattle.equilibrium_solutions.specs.Values.{IsProgramTrigger, stands_for, top_of};
+ghost use Rattle.report_form.specs.Ranges.{IsPair};
+ghost use Rattle.cert_check.specs.Gains.{AreGiven, NoneGains, NoneGainsAt};
+ghost use Rattle.corr_game.specs.declared.notions.Notion.{Notion};
+ghost use Rattle.corr_game.specs.declared.notions.Notion.TheVariants.{Efce, Nfcce};
 ghost use Rattle.corr_game.specs.Game.{sets_of};
 ghost use Rattle.connected_pairs.specs.Connected.{IsPairsOf};
 ghost use Rattle.cert_check.specs.Planned.{AreDrawn};
@@ -22,8 +31,12 @@ pub fn gains(
 ) -> Result<bool, NoMemory>
     requires whose { IsPairsOf game.now pairs.now }
     requires drawn { AreDrawn game.now list.now }
+    ensures exact { IfOk result (λ gained. All (IsEntry game.now) (entries_of list.now) → All IsPair list.now
+        → (gained ≡ false) ↔ NoneImproves at.0 at.1 game.now no_slack (entries_of list.now)) }
 {
     let (notion, side) = at;
+    // Their rules: they have some node and some pair.
+    let _ = (game.len(), pairs.len());
     if notion == Notion::Nfcce {
         return gains_by(
             alloc,
@@ -56,6 +69,8 @@ fn gains_at(
     requires whose { IsPairsOf game.now pairs.now }
     requires drawn { AreDrawn game.now list.now }
     requires known { at.2.0 < length (sets_of at.1 game.now) }
+    ensures exact { IfOk result (λ gained. AreGiven game.now pairs.now list.now → (at.0 ≡ Nfcce → ⊥)
+        → (gained ≡ false) ↔ NoneGainsAt at.0 at.1 game.now (entries_of list.now) at.2.0) }
 {
     let (notion, side, set) = at;
     if notion == Notion::Efce {
@@ -79,6 +94,8 @@ fn gains_at_moves(
     requires whose { IsPairsOf game.now pairs.now }
     requires drawn { AreDrawn game.now list.now }
     requires known { at.1.0 < length (sets_of at.0 game.now) }
+    ensures exact { IfOk result (λ gained. AreGiven game.now pairs.now list.now
+        → (gained ≡ false) ↔ NoneGainsAt Efce at.0 game.now (entries_of list.now) at.1.0) }
 {
     let (side, set) = at;
     for action in 0..game.set(side, set).actions {
@@ -99,6 +116,7 @@ fn seq_with(game: &Game, pairs: &Pairs, at: (Side, SetId), action: u32) -> u32
     requires whose { IsPairsOf game.now pairs.now }
     requires known { (info : SetInfo) × (slice_get (sets_of at.0 game.now) at.1.0 ≡ Some info) × (action < info.actions) }
     ensures in_range { result < count_of (side_of at.0 pairs.now.seqs) }
+    ensures ends { Ends (side_of at.0 pairs.now.seqs).places (at.1, action) result }
 {
     let _ = game;
     let count = pairs.seqs().count(at.0);
@@ -117,6 +135,11 @@ fn gains_by(
     requires whose { IsPairsOf game.now pairs.now }
     requires drawn { AreDrawn game.now list.now }
     requires known { IsKnown pairs.now.seqs trigger.now }
+    ensures exact { IfOk result (λ gained. (notion : Notion) (left : Deviation) → AreGiven game.now pairs.now list.now
+        → IsTriggerOf notion game.now trigger.now.side left
+        → IsProgramTrigger notion game.now pairs.now trigger.now.side (stands_for trigger.now.side left trigger.now.seq)
+        → trigger.now.set ≡ top_of left
+        → (gained ≡ false) ↔ NoneGains trigger.now.side game.now (entries_of list.now) left) }
 {
     let best = best_left(alloc, game, pairs, list, trigger)?;
     Ok(best > followed(game, pairs, list, trigger))
