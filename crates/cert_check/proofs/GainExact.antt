@@ -1,6 +1,6 @@
 -- No full choice gains at a trigger exactly where the number from the last set back is at most what following pays.
-use Rattle.std.proofs.Common.{◌≡◌, ◌↔◌, ℕ, ◌<◌, Bool, true, false, ◌&&◌, cond, List, All, length, Option, Some, None, slice_get, slice_index}
-use Rattle.std.proofs.Common.{ℤ, pos, ◌*ℤ◌, ◌≤ℤ◌, refl, ap, ◌∙◌, arith}
+use Rattle.std.proofs.Common.{◌≡◌, ◌↔◌, ℕ, ◌<◌, Bool, true, false, ◌&&◌, cond, List, All, length, Option, Some, None}
+use Rattle.std.proofs.Common.{slice_get, slice_index, ℤ, pos, ◌*ℤ◌, ◌≤ℤ◌, refl, ap, ◌∙◌, arith}
 use Rattle.std.proofs.lemmas.Bool.{and_from, and_parts}
 use Rattle.std.proofs.lemmas.Int.{ints}
 use Rattle.std.proofs.lemmas.Option.{slice_get_within}
@@ -64,7 +64,8 @@ known_top Nfcce g side (Told at action) is set e = absurd is
 known_top Nfcce g side (Reached at) is set e = absurd is
 known_top Nfcce g side Start is set e = absurd (cc)
 
-weaker : (top : Option SetId) (action : Option ℕ) (moves : Moves) → has_followed top action moves ≡ true → has_followed top None moves ≡ true
+weaker : (top : Option SetId) (action : Option ℕ) (moves : Moves) → has_followed top action moves ≡ true
+    → has_followed top None moves ≡ true
 weaker None action moves h = refl
 weaker (Some top) action moves h = some_weaker top.0 action moves h
 
@@ -76,8 +77,8 @@ stronger side g (Told set action) plan moves met named h =
 stronger side g (Reached set) plan moves met named h = h
 stronger side g Start plan moves met named h = refl
 
-module _ (g : GameView) (rules : IsGame g) (p : PairsView) (pairs : IsPairs p) (of : IsPairsOf g p) (side : Side) (recall : HasRecall g side)
-    (own : OwnSequences side g) (others : OwnSequences (other side) g) (notion : Notion) (left : Trigger) (seq : ℕ)
+module _ (g : GameView) (rules : IsGame g) (p : PairsView) (pairs : IsPairs p) (of : IsPairsOf g p) (side : Side)
+    (recall : HasRecall g side) (own : OwnSequences side g) (others : OwnSequences (other side) g) (notion : Notion) (left : Trigger) (seq : ℕ)
     (of_notion : IsTriggerOf notion g side left) (is : IsProgramTrigger notion g p side (stands_for side left seq)) where
   -- by own sequences: whether a plan meets the trigger and the other's names the moves to a node
   abbrev pub left_test : PlanTest
@@ -107,7 +108,8 @@ module _ (g : GameView) (rules : IsGame g) (p : PairsView) (pairs : IsPairs p) (
       let met = meets_plays g p pairs of side rules recall own notion left seq of_notion is plan in
       let here = node_plays g rules p pairs of side own plan n low in
       let there = node_plays g rules p pairs of (other side) others against n low in
-      let past = past_by (top_of left) moves (slice_index (side_of side p.seqs).nodes n) (node_numbered g rules p pairs of side own n low) in
+      let past = past_by (top_of left) moves (slice_index (side_of side p.seqs).nodes n)
+      (node_numbered g rules p pairs of side own n low) in
       let followed = has_followed (top_of left) (action_of left) moves in
       let mine = names_all plan moves in
       let theirs = names_all against (others.node n) in (
@@ -137,8 +139,8 @@ module _ (g : GameView) (rules : IsGame g) (p : PairsView) (pairs : IsPairs p) (
         (λ e. names_all (plan_of side e.one e.two) (own.node n) && names_all (plan_of (other side) e.one e.two) (others.node n)) list)
 
     pub none_gains_where : (best follows : ℤ) → StandInRow (side_of side p.seqs).places
-        → IsWorth (side_of side p.seqs).places (paid_behind (side_of side p.seqs).nodes (paid_in_list side g left_test list) (length g.nodes))
-        (top_of left) best
+        → IsWorth (side_of side p.seqs).places
+        (paid_behind (side_of side p.seqs).nodes (paid_in_list side g left_test list) (length g.nodes)) (top_of left) best
         → follows ≡ sum_to (length g.nodes) (λ n. paid_in_list side g followed_test list n)
         → ((choice : List ℕ) → IsFullChoice side g choice → GainsNoMore side g no_slack list left choice) ↔ (best ≤ℤ follows)
     none_gains_where best follows row worth sum =

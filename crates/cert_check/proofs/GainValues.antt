@@ -15,7 +15,8 @@ use Rattle.sequences.specs.Number.{Ends, IsOwn, side_of}
 use Rattle.sequences.proofs.Adding.{within}
 use Rattle.connected_pairs.specs.Connected.{IsPairs, IsPairsOf, PairsView}
 use Rattle.incentive_rows.specs.declared.triggers.Trigger.{Trigger}
-use Rattle.equilibrium_solutions.specs.Decision.{AreValues, Decision, GoesBack, IsChoice, IsDecision, after, at_start, gets, is_given, takes}
+use Rattle.equilibrium_solutions.specs.Decision.{AreValues, Decision, GoesBack, IsChoice, IsDecision, after, at_start, gets}
+use Rattle.equilibrium_solutions.specs.Decision.{is_given, takes}
 use Rattle.equilibrium_solutions.specs.Departure.{OwnSequences, actions_there, before_play, departure, is_of}
 use Rattle.equilibrium_solutions.proofs.Departing.{is_decision}
 use Rattle.equilibrium_solutions.proofs.MoveNumbers.{IsNumberOf}
@@ -124,7 +125,8 @@ module _ (g : GameView) (rules : IsGame g) (p : PairsView) (pairs : IsPairs p) (
       (ends_is_number v (pairs.sides trigger.side) set action (place.first + action) (slice_index v.nodes n) end (own.node n)
       (node_numbered g rules p pairs of trigger.side own n h))) in
       ap₂ (λ (x y : ℤ). x +ℤ y)
-      (sets ∙ ap (λ (count : ℕ). sum_to count (λ k. cond (nat_eq (own_there (slice_get places k)) (place.first + action)) (value k) (pos 0)))
+      (sets
+      ∙ ap (λ (count : ℕ). sum_to count (λ k. cond (nat_eq (own_there (slice_get places k)) (place.first + action)) (value k) (pos 0)))
       (sym (of.sides trigger.side).per_set)) leaves
       ∙ +ℤ_comm (sum_to (length places) (λ k. cond (nat_eq (own_there (slice_get places k)) (place.first + action)) (value k) (pos 0)))
       (paid (place.first + action))
@@ -133,13 +135,14 @@ module _ (g : GameView) (rules : IsGame g) (p : PairsView) (pairs : IsPairs p) (
   start_is : (value : ℕ → ℤ) → trigger.set ≡ None → at_start leaving_there value ≡ leads_to places paid value 0
   start_is value none =
       let v = side_of trigger.side p.seqs in
-      let all : (set : ℕ) → is_of trigger.side g trigger.set set ≡ true = λ set. ap (λ (t : Option SetId). is_of trigger.side g t set) none in
+      let all : (set : ℕ) → is_of trigger.side g trigger.set set ≡ true =
+      λ set. ap (λ (t : Option SetId). is_of trigger.side g t set) none in
       let once : before_play trigger.set ≡ true = ap before_play none in
       let sets = sum_to-same (length (sets_of trigger.side g)) _ _ (λ k h.
       ap (λ (b : Bool). cond b (value k) (pos 0))
       (ap (λ (b : Bool). b && is_given (λ s. is_of trigger.side g trigger.set s) (own.set k)) (all k)
-      ∙ given_is_empty v (pairs.sides trigger.side) (λ s. is_of trigger.side g trigger.set s) (own_there (slice_get places k)) all (own.set k)
-      (own_number k h))) in
+      ∙ given_is_empty v (pairs.sides trigger.side) (λ s. is_of trigger.side g trigger.set s) (own_there (slice_get places k)) all
+      (own.set k) (own_number k h))) in
       let leaves = sum_to-same (length g.nodes) _ _ (λ n h.
       ap (λ (b : Bool). cond b (pays n) (pos 0))
       (ap (λ (b : Bool). b && is_given (λ s. is_of trigger.side g trigger.set s) (own.node n)) once
@@ -232,7 +235,8 @@ module _ (g : GameView) (rules : IsGame g) (p : PairsView) (pairs : IsPairs p) (
   actions_are : (set : ℕ) (place : Place) → slice_get places set ≡ Some place
       → actions_there (slice_get (sets_of trigger.side g) set) ≡ place.actions
   actions_are set place at =
-      let low : set < length (sets_of trigger.side g) = omega (arith, (of.sides trigger.side).per_set, slice_get_within places set place at) in
+      let low : set < length (sets_of trigger.side g) =
+      omega (arith, (of.sides trigger.side).per_set, slice_get_within places set place at) in
       let info = within (sets_of trigger.side g) set low in
       ap actions_there info.1 ∙ sym ((of.sides trigger.side).same_actions set place info.0 at info.1)
 

@@ -1,6 +1,6 @@
 -- From the last set back: a set's value is the greatest of the numbers at its sequences, and goes to the set's own sequence.
-use Rattle.std.proofs.Common.{◌≡◌, ◌≢◌, ◌⊎◌, ℕ, zero, suc, ◌+◌, ◌-◌, ◌<◌, ◌≤◌, inl, inr, Bool, true, false, nat_eq, cond, List, [], ◌∷◌, length, take}
-use Rattle.std.proofs.Common.{Option, Some, None, slice_get, ℤ, pos, ◌+ℤ◌, ◌-ℤ◌, ◌≤ℤ◌, get_or, refl, sym, ap, ap₂, subst₂, ◌∙◌, arith}
+use Rattle.std.proofs.Common.{◌≡◌, ◌≢◌, ◌⊎◌, ℕ, zero, suc, ◌+◌, ◌-◌, ◌<◌, ◌≤◌, inl, inr, Bool, true, false, nat_eq, cond, List, [], ◌∷◌}
+use Rattle.std.proofs.Common.{length, take, Option, Some, None, slice_get, ℤ, pos, ◌+ℤ◌, ◌-ℤ◌, ◌≤ℤ◌, get_or, refl, sym, ap, ap₂, subst₂, ◌∙◌, arith}
 use Rattle.std.specs.Prelude.{slice_index_or, slice_set}
 use Rattle.std.proofs.lemmas.Bool.{cases_eq, cases_lt, ne_eqb}
 use Rattle.std.proofs.lemmas.Int.{ints}
@@ -32,8 +32,8 @@ own_at : (places : List Place) (t : ℕ) (place : Place) → slice_get places t 
 own_at places t place at = ap own_there at
 
 -- the numbers with one set's value put anew, where it was 0
-leads_put : (places : List Place) (paid value : ℕ → ℤ) (t : ℕ) (place : Place) (best : ℤ) → slice_get places t ≡ Some place → value t ≡ pos 0
-    → (seq : ℕ)
+leads_put : (places : List Place) (paid value : ℕ → ℤ) (t : ℕ) (place : Place) (best : ℤ) → slice_get places t ≡ Some place
+    → value t ≡ pos 0 → (seq : ℕ)
     → leads_to places paid (put value t best) seq ≡ leads_to places paid value seq +ℤ cond (nat_eq place.own seq) best (pos 0)
 leads_put places paid value t place best at none seq =
     let count = length places in
@@ -44,7 +44,9 @@ leads_put places paid value t place best at none seq =
     let changed = sum_to-changed count t new old (slice_get_within places t place at) others in
     let here : new t ≡ cond (nat_eq place.own seq) best (pos 0) =
     ap₂ (λ (o : ℕ) (z : ℤ). cond (nat_eq o seq) z (pos 0)) (own_at places t place at) (put-same value t best) in
-    let was : old t ≡ pos 0 = ap (λ (z : ℤ). cond (nat_eq (own_there (slice_get places t)) seq) z (pos 0)) none ∙ nothing (nat_eq (own_there (slice_get places t)) seq) in
+    let was : old t ≡ pos 0 =
+    ap (λ (z : ℤ). cond (nat_eq (own_there (slice_get places t)) seq) z (pos 0)) none
+    ∙ nothing (nat_eq (own_there (slice_get places t)) seq) in
     together (paid seq) (sum_to count new) (sum_to count old) (new t) (old t) _ changed here was
   where
     nothing : (b : Bool) → cond b (pos 0) (pos 0) ≡ pos 0
@@ -68,7 +70,8 @@ same_first : (places : List Place) (j k : ℕ) (a b : Place) → j ≡ k → sli
     → a.first ≡ b.first
 same_first places j k a b e f h = ap (λ (p : Place). p.first) (same_place places j k a b e f h)
 
-module _ (v : SideView) (rules : IsSide v) (row : StandInRow v.places) (paid : ℕ → ℤ) (left : List ℤ) (gone : IsGoneOver v.places paid left) where
+module _ (v : SideView) (rules : IsSide v) (row : StandInRow v.places) (paid : ℕ → ℤ) (left : List ℤ)
+    (gone : IsGoneOver v.places paid left) where
   -- a sequence without a last move is the empty one
   only_empty : (seq : ℕ) → seq < length v.lasts + 1 → last_of v seq ≡ None → seq ≡ 0
   only_empty zero low e = refl

@@ -14,7 +14,8 @@ nothing_if : (test : Bool) → cond test (pos 0) (pos 0) ≡ pos 0
 nothing_if true = refl
 nothing_if false = refl
 
-module _ (v : SideView) (rules : IsSide v) (row : StandInRow v.places) (paid : ℕ → ℤ) (left : List ℤ) (whole : length left ≡ count_of v) where
+module _ (v : SideView) (rules : IsSide v) (row : StandInRow v.places) (paid : ℕ → ℤ) (left : List ℤ)
+    (whole : length left ≡ count_of v) where
   leads_plain : (seq : ℕ) → paid seq ≡ leads_to v.places paid (λ set. pos 0) seq
   leads_plain seq =
       sym (+ℤ_idr (paid seq))

@@ -10,8 +10,8 @@ ghost use Rattle.connected_pairs.specs.Connected.{IsPairsOf, other};
 ghost use Rattle.equilibrium.specs.Distribution.{entries_of};
 ghost use Rattle.report_form.specs.Ranges.{IsPair};
 ghost use Rattle.cert_check.specs.Planned.{AreDrawn, IsDrawn, IsPlanned};
-ghost use Rattle.cert_check.specs.Leaving.{GrowBy, IsGoneOver, IsLeft, IsPast, IsWorth, FollowsTo, PlanTest, StandInRow, TellsFollowed, TellsLeft};
-ghost use Rattle.cert_check.specs.Leaving.{paid_behind, paid_in_list, paid_in_pair};
+ghost use Rattle.cert_check.specs.Leaving.{FollowsTo, GrowBy, IsGoneOver, IsLeft, IsPast, IsWorth, PlanTest, StandInRow};
+ghost use Rattle.cert_check.specs.Leaving.{TellsFollowed, TellsLeft, paid_behind, paid_in_list, paid_in_pair};
 ghost use Rattle.cert_check.specs.Reach.{reach};
 ghost use Rattle.cert_check.specs.Triggers.{IsKnown};
 
@@ -67,7 +67,8 @@ fn left_sums(
     ensures count { IfOk result (λ left. length left.items ≡ count_of (side_of trigger.now.side pairs.now.seqs)) }
     ensures few { IfOk result (λ left. length left.items ≤ 4096) }
     ensures bound { IfOk result (λ left. reach left.items ≤ 2 ^ 118) }
-    ensures sums { IfOk result (λ left. (passes : PlanTest) → TellsLeft pairs.now.seqs trigger.now.side trigger.now.seq (length game.now.nodes) passes
+    ensures sums { IfOk result (λ left. (passes : PlanTest)
+        → TellsLeft pairs.now.seqs trigger.now.side trigger.now.seq (length game.now.nodes) passes
         → All IsPair list.now → (q : ℕ) → q < length left.items → slice_index_or left.items q (pos 0)
         ≡ paid_behind (side_of trigger.now.side pairs.now.seqs).nodes
         (paid_in_list trigger.now.side game.now passes (entries_of list.now)) (length game.now.nodes) q) }

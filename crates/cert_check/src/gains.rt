@@ -35,7 +35,7 @@ pub fn gains(
         → (gained ≡ false) ↔ NoneImproves at.0 at.1 game.now no_slack (entries_of list.now)) }
 {
     let (notion, side) = at;
-    // Their rules: they have some node and some pair.
+    // Read for their rules alone.
     let _ = (game.len(), pairs.len());
     if notion == Notion::Nfcce {
         return gains_by(

@@ -35,7 +35,8 @@ returns-then-plays-clause-sums c = λ plays same q in_range.
     let here : unsigned_abs x ≤ 2 ^ 121 = omega (arith, reach_get xs own x low c.index.ensures, c.requires.room) in
     let small = c.amount_at.ensures.small in
     let bound = rw (returned x (omega arith), returned a (omega arith)) at c.plus_product.ensures.bound in
-    let value = rw (returned x (omega arith), returned a (omega arith), narrow_returned w c.requires.drawn.1) at c.plus_product.ensures.value in
+    let value = rw (returned x (omega arith), returned a (omega arith), narrow_returned w c.requires.drawn.1)
+    at c.plus_product.ensures.value in
     let same_value : v ≡ x +ℤ w *ℤ a = returned c.plus_product.result (omega (arith, bound, small)) ∙ value in
     let there : Plays (side_of (other c.args.at.0) c.args.pairs.now.seqs)
     (plan_of (other c.args.at.0) c.args.paid.0.now.one c.args.paid.0.now.two)

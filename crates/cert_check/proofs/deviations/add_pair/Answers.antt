@@ -56,7 +56,8 @@ loop-n-preserved c =
             c.loop-n.invariant.0,
             omega (arith, c.loop-n.invariant.1),
             λ passes tells. grown_no_more nodes (paid_in_pair side g passes pair) n _ _
-                (amount_nowhere side (slice_get g.nodes n) _ (no_leaf side (slice_get g.nodes n) _ c.node.ensures.item w.in_default.not-Leaf))
+                (amount_nowhere side (slice_get g.nodes n) _
+                (no_leaf side (slice_get g.nodes n) _ c.node.ensures.item w.in_default.not-Leaf))
                 (c.loop-n.invariant.2 passes tells),
           )
     ]
@@ -67,5 +68,5 @@ returns-else-plays-clause-sums c = λ passes tells.
     let side = c.args.trigger.now.side in
     let pair = c.args.pair.now in
     let away : Plays (side_of side s) (plan_of side pair.one pair.two) c.args.trigger.now.seq → ⊥ = search rules in
-    grown_nothing (side_of side s).nodes (paid_in_pair side c.args.game.now passes pair) (length c.args.game.now.nodes) c.args.left.now.items
-    (pays_nothing s side c.args.trigger.now.seq c.args.game.now (length c.args.game.now.nodes) passes tells pair away)
+    grown_nothing (side_of side s).nodes (paid_in_pair side c.args.game.now passes pair) (length c.args.game.now.nodes)
+    c.args.left.now.items (pays_nothing s side c.args.trigger.now.seq c.args.game.now (length c.args.game.now.nodes) passes tells pair away)

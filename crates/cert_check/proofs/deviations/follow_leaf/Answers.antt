@@ -17,7 +17,8 @@ returns-then-follows-clause-value c = λ passes same.
     let a = c.amount_at.result in
     let w = c.args.paid.0.now.weight in
     let there = c.follows.ensures.exact.0 c.if-follows.true in
-    let bound = rw (returned t (omega (arith, c.requires.room)), returned a (omega (arith, c.amount_at.ensures.small))) at c.plus_product.ensures.bound in
+    let bound = rw (returned t (omega (arith, c.requires.room)), returned a (omega (arith, c.amount_at.ensures.small)))
+    at c.plus_product.ensures.bound in
     let value = rw (
       returned t (omega (arith, c.requires.room)),
       returned a (omega (arith, c.amount_at.ensures.small)),
@@ -33,4 +34,6 @@ returns-else-follows-clause-value c = λ passes same.
     let away : FollowsTo c.args.pairs.now.seqs c.args.at.0.now.side c.args.at.0.now.set c.args.at.0.now.seq c.args.at.1
     (plan_of c.args.at.0.now.side c.args.paid.0.now.one c.args.paid.0.now.two)
     (plan_of (other c.args.at.0.now.side) c.args.paid.0.now.one c.args.paid.0.now.two) → ⊥ = search rules in
-    rw (told_false passes same away) (returned c.args.before (omega (arith, c.requires.room)) ∙ adds_nothing c.args.before (amount_of c.args.at.0.now.side c.args.paid.1.now))
+    rw (told_false passes same away)
+    (returned c.args.before (omega (arith, c.requires.room))
+    ∙ adds_nothing c.args.before (amount_of c.args.at.0.now.side c.args.paid.1.now))

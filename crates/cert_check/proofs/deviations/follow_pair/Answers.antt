@@ -54,6 +54,7 @@ loop-n-preserved c =
           rw w.total-is (
             omega (arith, c.loop-n.invariant.0),
             λ passes tells. no_more _ _ (λ k. paid_in_pair side g passes pair k) n (c.loop-n.invariant.1 passes tells)
-                (amount_nowhere side (slice_get g.nodes n) _ (no_leaf side (slice_get g.nodes n) _ c.node.ensures.item w.in_default.not-Leaf)),
+                (amount_nowhere side (slice_get g.nodes n) _
+                (no_leaf side (slice_get g.nodes n) _ c.node.ensures.item w.in_default.not-Leaf)),
           )
     ]

@@ -27,5 +27,6 @@ loop-k-preserved c =
     let from : c.args.first ≤ c.loop-k.k = omega (arith, c.loop-k.invariant.2.1, c.loop-k.invariant.2.2) in
     let one = rw (to_z-of_z w128 (get_or xs c.loop-k.k (pos 0)) here) at c.greater-best.ensures.one_of in
     let most = rw (to_z-of_z w128 (get_or xs c.loop-k.k (pos 0)) here) at c.greater-best.ensures.over in
-    let next = best_next xs c.args.first c.loop-k.k (to_z w128 c.loop-k.best-bits) r from (c.loop-k.invariant.1, c.loop-k.invariant.2) one most in
+    let next = best_next xs c.args.first c.loop-k.k (to_z w128 c.loop-k.best-bits) r from
+    (c.loop-k.invariant.1, c.loop-k.invariant.2) one most in
     rw (to_z-of_z w128 r fits) (one_of, next.0, next.1)
