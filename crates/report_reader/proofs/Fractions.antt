@@ -1,13 +1,14 @@
 -- The text of a fraction in lowest terms is the one from which it was read: no other numerator and denominator are reduced to
 -- its own ones with the same denominator.
-use Rattle.std.proofs.Common.{◌≡◌, ℕ, zero, suc, ◌<◌, ◌≤◌, ℤ, pos, ◌*ℤ◌, ◌≤ℤ◌, ◌<ℤ◌, unsigned_abs}
+use Rattle.std.proofs.Common.{◌≡◌, ℕ, zero, suc, ◌^◌, ◌<◌, ◌≤◌, ℤ, pos, ◌*ℤ◌, ◌≤ℤ◌, ◌<ℤ◌, unsigned_abs}
 use Rattle.std.proofs.Common.{List, [], ◌∷◌, ◌++◌, length, take, drop, refl, sym, ap, ap₂, subst, ◌∙◌, append_assoc, arith}
-use Rattle.std.specs.Fmt.{signed_decimal}
+use Rattle.std.specs.Fmt.{decimal, signed_decimal}
 use Rattle.std.proofs.lemmas.Int.{ints}
 use Rattle.exact_algebra.proofs.Order.{cancel_positive}
 use Rattle.corr_num.specs.Fraction.{Fraction, IsReduced}
 use Rattle.report_text.specs.PartText.{frac_text, quotient_text}
 use Rattle.report_text.proofs.Fractions.{whole_text, parts_text}
+use Rattle.report_reader.proofs.Numerals.{one_signed}
 
 one_only : (d : ℤ) → pos 0 <ℤ d → unsigned_abs d ≤ 1 → d ≡ pos 1
 one_only d some small = omega (arith, ints)
@@ -38,3 +39,15 @@ no_rest zero [] none = refl
 no_rest zero (x ∷ xs) none = absurd (omega (arith, none))
 no_rest (suc n) [] none = refl
 no_rest (suc n) (x ∷ xs) none = ap (λ (l : List ℕ). x ∷ l) (no_rest n xs none)
+
+pub parts_are : (n d : ℤ) → quotient_text n d ≡ signed_decimal n ++ 47 ∷ signed_decimal d
+unfolding quotient_text
+parts_are n d = append_assoc (signed_decimal n) (47 ∷ []) (signed_decimal d)
+
+-- a denominator by its text
+pub denominator_is : (d : ℤ) (size : ℕ) (digits : List ℕ) → pos 0 <ℤ d → unsigned_abs d < 2 ^ 126 → size < 2 ^ 126 → digits ≡ decimal size
+    → digits ≡ signed_decimal d → d ≡ pos size
+denominator_is d size digits some small fits is same = one_signed d (pos size) (omega (arith, small)) (omega (arith, fits)) same is
+
+pub small_one : (d : ℤ) (size : ℕ) → pos 0 <ℤ d → d ≡ pos size → size < 2 → d ≡ pos 1
+small_one d size some is small = omega (arith, ints, some, is, small)

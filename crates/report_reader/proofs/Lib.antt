@@ -5,3 +5,5 @@ pub mod Numerals
 pub mod OnePlace
 pub mod Pushed
 pub mod Reading
+pub mod Slashes
+pub mod Stopping

@@ -80,6 +80,9 @@ piece_read bytes at piece text same is =
 pub same_text : (xs ys : List ℕ) → true ≡ pointwise nat_eq xs ys → xs ≡ ys
 same_text xs ys e = (slice_eq-Decides Decides-eqb xs ys (pointwise nat_eq xs ys) refl).0 (sym e)
 
+pub other_text : (xs ys : List ℕ) → false ≡ pointwise nat_eq xs ys → xs ≡ ys → ⊥
+other_text xs ys e same = absurd (cc (e, (slice_eq-Decides Decides-eqb xs ys (pointwise nat_eq xs ys) refl).1 same))
+
 -- and does not find other ones
 pub not_other : (b : Bool) → false ≡ not b → true ≡ b
 not_other true e = refl

@@ -1,5 +1,7 @@
 -- Text that is read: it stood in front of the bytes that were left, and those behind it are left.
-use Rattle.std.specs.Prelude.{◌≡◌, ℕ, ◌+◌, if◌then◌else◌, List, [], ◌∷◌, ◌++◌, take, drop}
+use Rattle.std.specs.Prelude.{◌≡◌, ℕ, ◌+◌, if◌then◌else◌, ◌==◌, List, [], ◌∷◌, ◌++◌, take, drop}
+use Rattle.report_reader.specs.declared.refusals.Stop.{Stop}
+use Rattle.report_reader.specs.declared.refusals.Stop.TheVariants.{Syntax}
 use Rattle.report_reader.specs.Cursor.{Cursor}
 use Rattle.report_reader.specs.Pieces.{is_blank}
 
@@ -21,6 +23,11 @@ piece_length (byte ∷ bytes) = if is_blank byte then 1 else run_length bytes + 
 abbrev pub first_piece : List ℕ → List ℕ
 first_piece bytes = take (piece_length bytes) bytes
 
+-- how many bytes stand before the first slash
+abbrev pub slash_place : List ℕ → ℕ
+slash_place [] = 0
+slash_place (byte ∷ bytes) = if byte == 47 then 0 else slash_place bytes + 1
+
 -- the text was read
 pub record Reads (old new : Cursor) (text : List ℕ) : Type 0 where
   pub input : new.bytes ≡ old.bytes
@@ -30,3 +37,9 @@ pub record Reads (old new : Cursor) (text : List ℕ) : Type 0 where
 pub record ReadsBehind (before : List ℕ) (old new : Cursor) (text : List ℕ) : Type 0 where
   pub input : new.bytes ≡ old.bytes
   pub passed : before ++ left_of old ≡ text ++ left_of new
+
+-- the reader stopped before a piece that is the text of no good value
+pub record StopsAt {A : Type 0} (Good : A → Type 0) (text : A → List ℕ) (old new : Cursor) (stop : Stop) : Type 0 where
+  pub syntax : stop ≡ Syntax
+  pub unmoved : new ≡ old
+  pub no_value : (value : A) → Good value → first_piece (left_of old) ≡ text value → ⊥
