@@ -1,9 +1,9 @@
 // Single values: each is the next piece, or the reader stops before it.
-ghost use Rattle.std.specs.Prelude.{◌≡◌, ◌≤◌, ◌<◌, ◌^◌, length, IfOk, OnOk, codes};
+ghost use Rattle.std.specs.Prelude.{◌≡◌, ◌≤◌, ◌<◌, ◌^◌, length, drop, IfErr, IfOk, OnOk, codes};
 ghost use Rattle.std.specs.Fmt.{decimal, signed_decimal};
 ghost use Rattle.corr_num.specs.Narrow.{Narrow};
 ghost use Rattle.report_form.specs.Ranges.{AreSome, IsPositive, IsAction, IsPayoff, IsRow, IsScale, notion_number};
-ghost use Rattle.report_reader.specs.Reading.{Reads, ReadsBehind};
+ghost use Rattle.report_reader.specs.Reading.{Reads, ReadsBehind, StopsAt};
 ghost use Rattle.report_text.specs.NameText.{notion_name};
 ghost use Rattle.report_text.specs.PartText.{action_text, frac_text, row_text};
 
@@ -19,6 +19,7 @@ const NARROW: u128 = 1 << 62;
 pub(crate) fn read_int(pieces: &mut Pieces) -> Result<i128, Stop>
     ensures narrow { IfOk result (λ value. Narrow value) }
     ensures text { IfOk result (λ value. Reads pieces.old pieces.new (signed_decimal value)) }
+    ensures refused { IfErr result (StopsAt (λ value. Narrow value) signed_decimal pieces.old pieces.new) }
     ensures same_input { pieces.new.bytes ≡ pieces.old.bytes }
     ensures forward { IfOk result (λ value. pieces.old.at ≤ pieces.new.at) }
     ensures within { IfOk result (λ value. pieces.new.at ≤ length pieces.new.bytes) }
@@ -33,6 +34,7 @@ pub(crate) fn read_int(pieces: &mut Pieces) -> Result<i128, Stop>
 pub(crate) fn read_positive(pieces: &mut Pieces) -> Result<i128, Stop>
     ensures positive { IfOk result (λ value. IsPositive value) }
     ensures text { IfOk result (λ value. Reads pieces.old pieces.new (signed_decimal value)) }
+    ensures refused { IfErr result (StopsAt (λ value. IsPositive value) signed_decimal pieces.old pieces.new) }
     ensures same_input { pieces.new.bytes ≡ pieces.old.bytes }
 {
     let Some(value) = whole(pieces.next(), NARROW) else {
@@ -50,6 +52,7 @@ fn read_counted(pieces: &mut Pieces, limit: u128) -> Result<u128, Stop>
     ensures some { IfOk result (λ count. 1 ≤ count) }
     ensures below { IfOk result (λ count. count < limit) }
     ensures text { IfOk result (λ count. Reads pieces.old pieces.new (decimal count)) }
+    ensures refused { IfErr result (StopsAt (λ count. (1 ≤ count) × (count < limit)) decimal pieces.old pieces.new) }
     ensures same_input { pieces.new.bytes ≡ pieces.old.bytes }
 {
     let Some(count) = magnitude(pieces.next(), limit) else {
@@ -66,6 +69,7 @@ fn read_counted(pieces: &mut Pieces, limit: u128) -> Result<u128, Stop>
 pub(crate) fn read_count(pieces: &mut Pieces) -> Result<usize, Stop>
     ensures some { IfOk result AreSome }
     ensures text { IfOk result (λ count. Reads pieces.old pieces.new (decimal count)) }
+    ensures refused { IfErr result (StopsAt (λ count. AreSome count) decimal pieces.old pieces.new) }
     ensures same_input { pieces.new.bytes ≡ pieces.old.bytes }
 {
     Ok(read_counted(pieces, 1 << 64)? as usize)
@@ -76,6 +80,7 @@ pub(crate) fn read_pair_count(pieces: &mut Pieces) -> Result<usize, Stop>
     ensures some { IfOk result (λ count. 1 ≤ count) }
     ensures few { IfOk result (λ count. count ≤ 65535) }
     ensures text { IfOk result (λ count. Reads pieces.old pieces.new (decimal count)) }
+    ensures refused { IfErr result (StopsAt (λ count. (1 ≤ count) × (count ≤ 65535)) decimal pieces.old pieces.new) }
     ensures same_input { pieces.new.bytes ≡ pieces.old.bytes }
 {
     Ok(read_counted(pieces, 65536)? as usize)
@@ -84,6 +89,7 @@ pub(crate) fn read_pair_count(pieces: &mut Pieces) -> Result<usize, Stop>
 pub(crate) fn read_scale(pieces: &mut Pieces) -> Result<i64, Stop>
     ensures scale { IfOk result (λ scale. IsScale scale) }
     ensures text { IfOk result (λ scale. Reads pieces.old pieces.new (signed_decimal scale)) }
+    ensures refused { IfErr result (StopsAt (λ scale. IsScale scale) signed_decimal pieces.old pieces.new) }
     ensures same_input { pieces.new.bytes ≡ pieces.old.bytes }
 {
     Ok(read_counted(pieces, (1 << 24) + 1)? as i64)
@@ -93,6 +99,7 @@ pub(crate) fn read_scale(pieces: &mut Pieces) -> Result<i64, Stop>
 pub(crate) fn read_corner_number(pieces: &mut Pieces, corners: usize) -> Result<usize, Stop>
     ensures below { IfOk result (λ number. number < corners) }
     ensures text { IfOk result (λ number. Reads pieces.old pieces.new (decimal number)) }
+    ensures refused { IfErr result (StopsAt (λ number. number < corners) decimal pieces.old pieces.new) }
     ensures same_input { pieces.new.bytes ≡ pieces.old.bytes }
 {
     let Some(number) = magnitude(pieces.next(), corners as u128) else {
@@ -105,9 +112,13 @@ pub(crate) fn read_corner_number(pieces: &mut Pieces, corners: usize) -> Result<
 /// A corner's own number, which is its position.
 pub(crate) fn expect_position(pieces: &mut Pieces, position: usize) -> Result<(), Stop>
     ensures text { OnOk result (Reads pieces.old pieces.new (decimal position)) }
+    ensures refused { IfErr result (StopsAt (λ number. number ≡ position) decimal pieces.old pieces.new) }
     ensures same_input { pieces.new.bytes ≡ pieces.old.bytes }
 {
-    if magnitude(pieces.next(), 1 << 64) != Some(position as u128) {
+    let Some(number) = magnitude(pieces.next(), 1 << 64) else {
+        return Err(Stop::Syntax);
+    };
+    if number != position as u128 {
         return Err(Stop::Syntax);
     }
     pieces.pass();
@@ -117,6 +128,7 @@ pub(crate) fn expect_position(pieces: &mut Pieces, position: usize) -> Result<()
 pub(crate) fn read_fraction(pieces: &mut Pieces) -> Result<Frac, Stop>
     ensures payoff { IfOk result IsPayoff }
     ensures text { IfOk result (λ value. Reads pieces.old pieces.new (frac_text value)) }
+    ensures refused { IfErr result (StopsAt (λ value. IsPayoff value) frac_text pieces.old pieces.new) }
     ensures same_input { pieces.new.bytes ≡ pieces.old.bytes }
 {
     let Some(value) = fraction(pieces.next()) else {
@@ -130,6 +142,7 @@ pub(crate) fn read_fraction(pieces: &mut Pieces) -> Result<Frac, Stop>
 pub(crate) fn read_action(pieces: &mut Pieces) -> Result<Option<u32>, Stop>
     ensures action { IfOk result (λ action. IsAction action) }
     ensures text { IfOk result (λ action. ReadsBehind (codes " ") pieces.old pieces.new (action_text action)) }
+    ensures refused { IfErr result (StopsAt (λ action. IsAction action) (λ action. drop 1 (action_text action)) pieces.old pieces.new) }
     ensures same_input { pieces.new.bytes ≡ pieces.old.bytes }
     ensures forward { IfOk result (λ action. pieces.old.at ≤ pieces.new.at) }
     ensures within { IfOk result (λ action. pieces.new.at ≤ length pieces.new.bytes) }
@@ -152,6 +165,7 @@ pub(crate) fn read_column(pieces: &mut Pieces, least: u64) -> Result<u32, Stop>
     ensures least { IfOk result (λ column. least ≤ column) }
     ensures fits { IfOk result (λ column. column < 2 ^ 32) }
     ensures text { IfOk result (λ column. Reads pieces.old pieces.new (decimal column)) }
+    ensures refused { IfErr result (StopsAt (λ column. (least ≤ column) × (column < 2 ^ 32)) decimal pieces.old pieces.new) }
     ensures same_input { pieces.new.bytes ≡ pieces.old.bytes }
     ensures forward { IfOk result (λ column. pieces.old.at ≤ pieces.new.at) }
     ensures within { IfOk result (λ column. pieces.new.at ≤ length pieces.new.bytes) }
@@ -169,6 +183,7 @@ pub(crate) fn read_column(pieces: &mut Pieces, least: u64) -> Result<u32, Stop>
 pub(crate) fn read_row(pieces: &mut Pieces) -> Result<RowName, Stop>
     ensures row { IfOk result IsRow }
     ensures text { IfOk result (λ row. Reads pieces.old pieces.new (row_text row)) }
+    ensures refused { IfErr result (StopsAt (λ row. IsRow row) row_text pieces.old pieces.new) }
     ensures same_input { pieces.new.bytes ≡ pieces.old.bytes }
 {
     if pieces.take(b"first") {
@@ -199,6 +214,7 @@ pub(crate) fn number_of(notion: Notion) -> u32
 pub(crate) fn read_notion(pieces: &mut Pieces, least: u32) -> Result<Notion, Stop>
     ensures least { IfOk result (λ notion. least ≤ notion_number notion) }
     ensures text { IfOk result (λ notion. Reads pieces.old pieces.new (notion_name notion)) }
+    ensures refused { IfErr result (StopsAt (λ notion. least ≤ notion_number notion) notion_name pieces.old pieces.new) }
     ensures same_input { pieces.new.bytes ≡ pieces.old.bytes }
 {
     let Some(notion) = notion(pieces.next()) else {

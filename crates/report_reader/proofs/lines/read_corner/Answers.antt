@@ -13,8 +13,9 @@ returns-clause-text c =
     let sum = c.in_ok-total.total in
     let count = c.in_ok-count.count in
     let number = Reads-join c.in_ok-expect_first.ensures.text c.in_ok-expect_position.ensures.text in
+    let head = Reads-join number c.in_ok-expect.ensures.text in
     let place =
-    Reads-three (frac_text point.one) (codes " ") (frac_text point.two) (Reads-join number c.in_ok-expect.ensures.text) c.in_ok-point.ensures.text in
+    Reads-three (frac_text point.one) (codes " ") (frac_text point.two) head c.in_ok-point.ensures.text in
     let total =
     Reads-two (codes " total") (int_text sum) place (Reads-join c.in_ok-expect_between.ensures.text c.in_ok-total.ensures.text) in
     let counted =
