@@ -1,9 +1,11 @@
 pub mod Cutting
+pub mod FirstPieces
 pub mod Fractions
 pub mod ItemTexts
 pub mod Numerals
 pub mod OnePlace
 pub mod Pushed
 pub mod Reading
+pub mod Sequences
 pub mod Slashes
 pub mod Stopping

@@ -10,14 +10,14 @@ use Rattle.report_reader.specs.Syntax.{BeginsReport, IsReadFrom, IsSyntaxAt, Sto
 use Rattle.report_reader.proofs.Cutting.{joined}
 
 -- one front of a list goes on to another one
-record GoesOn {X : Type 0} (short left long : List X) : Type 0 where
-  more : List X
-  long_is : long ≡ short ++ more
-  rest : List X
-  left_is : left ≡ more ++ rest
+pub record GoesOn {X : Type 0} (short left long : List X) : Type 0 where
+  pub more : List X
+  pub long_is : long ≡ short ++ more
+  pub rest : List X
+  pub left_is : left ≡ more ++ rest
 
 -- of two fronts of a list one goes on to the other
-compared : {X : Type 0} (xs left ys other : List X) → xs ++ left ≡ ys ++ other → GoesOn xs left ys ⊎ GoesOn ys other xs
+pub compared : {X : Type 0} (xs left ys other : List X) → xs ++ left ≡ ys ++ other → GoesOn xs left ys ⊎ GoesOn ys other xs
 compared [] left ys other same = inl (record { more = ys; long_is = refl; rest = other; left_is = same })
 compared (x ∷ xs) left [] other same = inr (record { more = x ∷ xs; long_is = refl; rest = left; left_is = sym same })
 compared (x ∷ xs) left (y ∷ ys) other same =
