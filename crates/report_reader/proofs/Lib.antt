@@ -1,4 +1,5 @@
 pub mod Cutting
+pub mod CutReading
 pub mod FirstPieces
 pub mod Fractions
 pub mod ItemTexts

@@ -143,3 +143,12 @@ one_signed (negsuc m) (negsuc n) small other is same =
     let rest : decimal (suc m) ≡ decimal (suc n) = ap (λ (bytes : List ℕ). drop 1 bytes) (sym is ∙ same) in
     let next : suc m ≡ suc n = one_number (suc m) (suc n) (omega (arith, small)) (omega (arith, other)) refl rest in
     ap negsuc (omega (arith, next))
+
+-- a number's text isn't empty
+
+pub decimal_some : (n : ℕ) → n < 10 ^ 64 → 0 < length (decimal n)
+decimal_some n small = (number_text n (decimal n) small refl).some
+
+pub signed_some : (z : ℤ) → unsigned_abs z < 10 ^ 64 → 0 < length (signed_decimal z)
+signed_some (pos n) small = decimal_some n (omega (arith, small))
+signed_some (negsuc n) small = omega arith

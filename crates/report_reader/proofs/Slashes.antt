@@ -1,6 +1,7 @@
 -- A fraction's text in front of its slash and behind it: no number's text has a slash.
 use Rattle.std.proofs.Common.{◌≡◌, ◌≢◌, ℕ, zero, suc, ◌+◌, ◌-◌, ◌^◌, ◌<◌, ℤ, pos, negsuc, ◌<ℤ◌, unsigned_abs, ◌⊎◌, inl, inr, true}
-use Rattle.std.proofs.Common.{List, [], ◌∷◌, ◌++◌, length, take, drop, refl, sym, ap, subst, ◌∙◌, append-nil, take_all, arith}
+use Rattle.std.proofs.Common.{List, [], ◌∷◌, ◌++◌}
+use Rattle.std.proofs.Common.{length, take, drop, refl, sym, ap, subst, ◌∙◌, append-nil, take_all, length-append, arith}
 use Rattle.std.specs.Fmt.{decimal, signed_decimal}
 use Rattle.std.specs.Str.{all_ascii_digits}
 use Rattle.std.specs.Char.{is_ascii_digit}
@@ -11,7 +12,7 @@ use Rattle.report_form.specs.Ranges.{IsPayoff}
 use Rattle.report_text.specs.PartText.{frac_text}
 use Rattle.report_text.proofs.Fractions.{whole_text, parts_text}
 use Rattle.report_reader.specs.Reading.{slash_place}
-use Rattle.report_reader.proofs.Numerals.{both, digit_over, number_text}
+use Rattle.report_reader.proofs.Numerals.{both, digit_over, number_text, signed_some}
 use Rattle.report_reader.proofs.Fractions.{parts_are}
 
 digits_slash : (ds rest : List ℕ) → all_ascii_digits ds ≡ true → slash_place (ds ++ rest) ≡ length ds + slash_place rest
@@ -76,3 +77,11 @@ pub behind_first : (byte : ℕ) {bytes rest : List ℕ} → bytes ≡ byte ∷ r
 behind_first byte {bytes} {rest} is =
     let long : length bytes ≡ length (byte ∷ rest) = ap (λ (l : List ℕ). length l) is in
     ap (λ (l : List ℕ). take (length bytes - 1) (drop 1 l)) is ∙ take_all (length bytes - 1) rest (omega (arith, long))
+
+pub frac_some : (f : Fraction) → IsPayoff f → 0 < length (frac_text f)
+frac_some f payoff = elim (one_or_other f.den payoff.lowest.positive) [
+  | inl one ↦ omega (arith, ap (λ (l : List ℕ). length l) (whole_text f one), signed_some f.num (omega (arith, payoff.num)))
+  | inr other ↦
+      let parts = ap (λ (l : List ℕ). length l) (parts_text f other ∙ parts_are f.num f.den) in
+      omega (arith, parts, length-append (signed_decimal f.num) (47 ∷ signed_decimal f.den))
+]

@@ -3,7 +3,7 @@ use Rattle.std.specs.Prelude.{◌≡◌, ℕ, ◌+◌, if◌then◌else◌, ◌=
 use Rattle.report_reader.specs.declared.refusals.Stop.{Stop}
 use Rattle.report_reader.specs.declared.refusals.Stop.TheVariants.{Syntax}
 use Rattle.report_reader.specs.Cursor.{Cursor}
-use Rattle.report_reader.specs.Pieces.{is_blank}
+use Rattle.report_reader.specs.Pieces.{is_blank, pieces}
 
 -- the bytes from the place on
 abbrev pub left_of : Cursor → List ℕ
@@ -32,6 +32,10 @@ slash_place (byte ∷ bytes) = if byte == 47 then 0 else slash_place bytes + 1
 pub record Reads (old new : Cursor) (text : List ℕ) : Type 0 where
   pub input : new.bytes ≡ old.bytes
   pub passed : left_of old ≡ text ++ left_of new
+
+-- these pieces were read
+pub record ReadsPieces (old new : Cursor) (read : List (List ℕ)) : Type 0 where
+  pub cut : pieces (left_of old) ≡ read ++ pieces (left_of new)
 
 -- the text was read, but for its first bytes, which had been read before
 pub record ReadsBehind (before : List ℕ) (old new : Cursor) (text : List ℕ) : Type 0 where

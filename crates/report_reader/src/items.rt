@@ -1,9 +1,9 @@
 // Single values: each is the next piece, or the reader stops before it.
-ghost use Rattle.std.specs.Prelude.{◌≡◌, ◌≤◌, ◌<◌, ◌^◌, length, drop, IfErr, IfOk, OnOk, codes};
+ghost use Rattle.std.specs.Prelude.{◌≡◌, ◌≤◌, ◌<◌, ◌^◌, ◌∷◌, [], length, drop, IfErr, IfOk, OnOk, codes};
 ghost use Rattle.std.specs.Fmt.{decimal, signed_decimal};
 ghost use Rattle.corr_num.specs.Narrow.{Narrow};
 ghost use Rattle.report_form.specs.Ranges.{AreSome, IsPositive, IsAction, IsPayoff, IsRow, IsScale, notion_number};
-ghost use Rattle.report_reader.specs.Reading.{Reads, ReadsBehind, StopsAt};
+ghost use Rattle.report_reader.specs.Reading.{Reads, ReadsBehind, ReadsPieces, StopsAt};
 ghost use Rattle.report_text.specs.NameText.{notion_name};
 ghost use Rattle.report_text.specs.PartText.{action_text, frac_text, row_text};
 
@@ -20,6 +20,7 @@ pub(crate) fn read_int(pieces: &mut Pieces) -> Result<i128, Stop>
     ensures narrow { IfOk result (λ value. Narrow value) }
     ensures text { IfOk result (λ value. Reads pieces.old pieces.new (signed_decimal value)) }
     ensures refused { IfErr result (StopsAt (λ value. Narrow value) signed_decimal pieces.old pieces.new) }
+    ensures piece { IfOk result (λ value. ReadsPieces pieces.old pieces.new (signed_decimal value ∷ [])) }
     ensures same_input { pieces.new.bytes ≡ pieces.old.bytes }
     ensures forward { IfOk result (λ value. pieces.old.at ≤ pieces.new.at) }
     ensures within { IfOk result (λ value. pieces.new.at ≤ length pieces.new.bytes) }
@@ -35,6 +36,7 @@ pub(crate) fn read_positive(pieces: &mut Pieces) -> Result<i128, Stop>
     ensures positive { IfOk result (λ value. IsPositive value) }
     ensures text { IfOk result (λ value. Reads pieces.old pieces.new (signed_decimal value)) }
     ensures refused { IfErr result (StopsAt (λ value. IsPositive value) signed_decimal pieces.old pieces.new) }
+    ensures piece { IfOk result (λ value. ReadsPieces pieces.old pieces.new (signed_decimal value ∷ [])) }
     ensures same_input { pieces.new.bytes ≡ pieces.old.bytes }
 {
     let Some(value) = whole(pieces.next(), NARROW) else {
@@ -53,6 +55,7 @@ fn read_counted(pieces: &mut Pieces, limit: u128) -> Result<u128, Stop>
     ensures below { IfOk result (λ count. count < limit) }
     ensures text { IfOk result (λ count. Reads pieces.old pieces.new (decimal count)) }
     ensures refused { IfErr result (StopsAt (λ count. (1 ≤ count) × (count < limit)) decimal pieces.old pieces.new) }
+    ensures piece { IfOk result (λ count. ReadsPieces pieces.old pieces.new (decimal count ∷ [])) }
     ensures same_input { pieces.new.bytes ≡ pieces.old.bytes }
 {
     let Some(count) = magnitude(pieces.next(), limit) else {
@@ -70,6 +73,7 @@ pub(crate) fn read_count(pieces: &mut Pieces) -> Result<usize, Stop>
     ensures some { IfOk result AreSome }
     ensures text { IfOk result (λ count. Reads pieces.old pieces.new (decimal count)) }
     ensures refused { IfErr result (StopsAt (λ count. AreSome count) decimal pieces.old pieces.new) }
+    ensures piece { IfOk result (λ count. ReadsPieces pieces.old pieces.new (decimal count ∷ [])) }
     ensures same_input { pieces.new.bytes ≡ pieces.old.bytes }
 {
     Ok(read_counted(pieces, 1 << 64)? as usize)
@@ -81,6 +85,7 @@ pub(crate) fn read_pair_count(pieces: &mut Pieces) -> Result<usize, Stop>
     ensures few { IfOk result (λ count. count ≤ 65535) }
     ensures text { IfOk result (λ count. Reads pieces.old pieces.new (decimal count)) }
     ensures refused { IfErr result (StopsAt (λ count. (1 ≤ count) × (count ≤ 65535)) decimal pieces.old pieces.new) }
+    ensures piece { IfOk result (λ count. ReadsPieces pieces.old pieces.new (decimal count ∷ [])) }
     ensures same_input { pieces.new.bytes ≡ pieces.old.bytes }
 {
     Ok(read_counted(pieces, 65536)? as usize)
@@ -90,6 +95,7 @@ pub(crate) fn read_scale(pieces: &mut Pieces) -> Result<i64, Stop>
     ensures scale { IfOk result (λ scale. IsScale scale) }
     ensures text { IfOk result (λ scale. Reads pieces.old pieces.new (signed_decimal scale)) }
     ensures refused { IfErr result (StopsAt (λ scale. IsScale scale) signed_decimal pieces.old pieces.new) }
+    ensures piece { IfOk result (λ scale. ReadsPieces pieces.old pieces.new (signed_decimal scale ∷ [])) }
     ensures same_input { pieces.new.bytes ≡ pieces.old.bytes }
 {
     Ok(read_counted(pieces, (1 << 24) + 1)? as i64)
@@ -100,6 +106,7 @@ pub(crate) fn read_corner_number(pieces: &mut Pieces, corners: usize) -> Result<
     ensures below { IfOk result (λ number. number < corners) }
     ensures text { IfOk result (λ number. Reads pieces.old pieces.new (decimal number)) }
     ensures refused { IfErr result (StopsAt (λ number. number < corners) decimal pieces.old pieces.new) }
+    ensures piece { IfOk result (λ number. ReadsPieces pieces.old pieces.new (decimal number ∷ [])) }
     ensures same_input { pieces.new.bytes ≡ pieces.old.bytes }
 {
     let Some(number) = magnitude(pieces.next(), corners as u128) else {
@@ -113,6 +120,7 @@ pub(crate) fn read_corner_number(pieces: &mut Pieces, corners: usize) -> Result<
 pub(crate) fn expect_position(pieces: &mut Pieces, position: usize) -> Result<(), Stop>
     ensures text { OnOk result (Reads pieces.old pieces.new (decimal position)) }
     ensures refused { IfErr result (StopsAt (λ number. number ≡ position) decimal pieces.old pieces.new) }
+    ensures piece { OnOk result (ReadsPieces pieces.old pieces.new (decimal position ∷ [])) }
     ensures same_input { pieces.new.bytes ≡ pieces.old.bytes }
 {
     let Some(number) = magnitude(pieces.next(), 1 << 64) else {
@@ -129,6 +137,7 @@ pub(crate) fn read_fraction(pieces: &mut Pieces) -> Result<Frac, Stop>
     ensures payoff { IfOk result IsPayoff }
     ensures text { IfOk result (λ value. Reads pieces.old pieces.new (frac_text value)) }
     ensures refused { IfErr result (StopsAt (λ value. IsPayoff value) frac_text pieces.old pieces.new) }
+    ensures piece { IfOk result (λ value. ReadsPieces pieces.old pieces.new (frac_text value ∷ [])) }
     ensures same_input { pieces.new.bytes ≡ pieces.old.bytes }
 {
     let Some(value) = fraction(pieces.next()) else {
@@ -143,6 +152,7 @@ pub(crate) fn read_action(pieces: &mut Pieces) -> Result<Option<u32>, Stop>
     ensures action { IfOk result (λ action. IsAction action) }
     ensures text { IfOk result (λ action. ReadsBehind (codes " ") pieces.old pieces.new (action_text action)) }
     ensures refused { IfErr result (StopsAt (λ action. IsAction action) (λ action. drop 1 (action_text action)) pieces.old pieces.new) }
+    ensures piece { IfOk result (λ action. ReadsPieces pieces.old pieces.new (drop 1 (action_text action) ∷ [])) }
     ensures same_input { pieces.new.bytes ≡ pieces.old.bytes }
     ensures forward { IfOk result (λ action. pieces.old.at ≤ pieces.new.at) }
     ensures within { IfOk result (λ action. pieces.new.at ≤ length pieces.new.bytes) }
@@ -166,6 +176,7 @@ pub(crate) fn read_column(pieces: &mut Pieces, least: u64) -> Result<u32, Stop>
     ensures fits { IfOk result (λ column. column < 2 ^ 32) }
     ensures text { IfOk result (λ column. Reads pieces.old pieces.new (decimal column)) }
     ensures refused { IfErr result (StopsAt (λ column. (least ≤ column) × (column < 2 ^ 32)) decimal pieces.old pieces.new) }
+    ensures piece { IfOk result (λ column. ReadsPieces pieces.old pieces.new (decimal column ∷ [])) }
     ensures same_input { pieces.new.bytes ≡ pieces.old.bytes }
     ensures forward { IfOk result (λ column. pieces.old.at ≤ pieces.new.at) }
     ensures within { IfOk result (λ column. pieces.new.at ≤ length pieces.new.bytes) }
@@ -184,6 +195,7 @@ pub(crate) fn read_row(pieces: &mut Pieces) -> Result<RowName, Stop>
     ensures row { IfOk result IsRow }
     ensures text { IfOk result (λ row. Reads pieces.old pieces.new (row_text row)) }
     ensures refused { IfErr result (StopsAt (λ row. IsRow row) row_text pieces.old pieces.new) }
+    ensures piece { IfOk result (λ row. ReadsPieces pieces.old pieces.new (row_text row ∷ [])) }
     ensures same_input { pieces.new.bytes ≡ pieces.old.bytes }
 {
     if pieces.take(b"first") {
@@ -215,6 +227,7 @@ pub(crate) fn read_notion(pieces: &mut Pieces, least: u32) -> Result<Notion, Sto
     ensures least { IfOk result (λ notion. least ≤ notion_number notion) }
     ensures text { IfOk result (λ notion. Reads pieces.old pieces.new (notion_name notion)) }
     ensures refused { IfErr result (StopsAt (λ notion. least ≤ notion_number notion) notion_name pieces.old pieces.new) }
+    ensures piece { IfOk result (λ notion. ReadsPieces pieces.old pieces.new (notion_name notion ∷ [])) }
     ensures same_input { pieces.new.bytes ≡ pieces.old.bytes }
 {
     let Some(notion) = notion(pieces.next()) else {

@@ -5,7 +5,8 @@
 //! The one call is `read_report`. A report that it reads is in the ranges of `IsReport`, and its text is a front of the bytes;
 //! each function says by `Reads` of specs/Reading which text it has read. Which report some bytes begin with, and the place where
 //! they leave the format, is defined in specs/Syntax; by laws there is one such place at most, and none where a report is read.
-//! That a refusal's place is that one isn't proved yet.
+//! That a refusal's place is that one isn't proved yet; of a single value `StopsAt` says that its reader stops only before a piece
+//! that is the text of no good value.
 #![tactic(auto)]
 
 mod blocks;

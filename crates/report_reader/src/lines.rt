@@ -1,5 +1,5 @@
 // The parts of a block: pairs, corners, sides.
-ghost use Rattle.std.specs.Prelude.{◌≡◌, ◌++◌, length, All, IfErr, IfOk, OnOk, codes, unsigned_abs};
+ghost use Rattle.std.specs.Prelude.{◌≡◌, ◌++◌, ◌∷◌, [], length, All, IfErr, IfOk, OnOk, codes, unsigned_abs};
 ghost use Rattle.std.specs.Fmt.{signed_decimal};
 ghost use Rattle.std.specs.Int.{IsGcd};
 ghost use Rattle.corr_num.specs.Narrow.{Narrow};
@@ -7,7 +7,7 @@ ghost use Rattle.report_form.specs.Ranges.{AreSome, IsPair, IsPoint, IsCorner, I
 ghost use Rattle.report_text.specs.Joined.{each_text, texts_from};
 ghost use Rattle.report_text.specs.PartText.{count_text, frac_text, int_text, pair_text, side_text};
 ghost use Rattle.report_text.specs.ReportText.{corner_text};
-ghost use Rattle.report_reader.specs.Reading.{Reads, ReadsBehind, StopsAt};
+ghost use Rattle.report_reader.specs.Reading.{Reads, ReadsBehind, ReadsPieces, StopsAt};
 
 use crate::items::{
     expect_position, read_corner_number, read_count, read_fraction, read_int, read_pair_count,
@@ -137,6 +137,7 @@ fn read_coprime(pieces: &mut Pieces, a: i128) -> Result<i128, Stop>
     ensures narrow { IfOk result (λ b. Narrow b) }
     ensures coprime { IfOk result (λ b. IsGcd (unsigned_abs a) (unsigned_abs b) 1) }
     ensures text { IfOk result (λ b. Reads pieces.old pieces.new (signed_decimal b)) }
+    ensures piece { IfOk result (λ b. ReadsPieces pieces.old pieces.new (signed_decimal b ∷ [])) }
     ensures refused { IfErr result
         (StopsAt (λ b. Narrow b × IsGcd (unsigned_abs a) (unsigned_abs b) 1) signed_decimal pieces.old pieces.new) }
     ensures same_input { pieces.new.bytes ≡ pieces.old.bytes }

@@ -1,6 +1,6 @@
-ghost use Rattle.std.specs.Prelude.{◌≡◌, ◌+◌, ◌≤◌, length, IsTrue, IsFalse, IfErr, OnOk};
+ghost use Rattle.std.specs.Prelude.{◌≡◌, ◌+◌, ◌<◌, ◌≤◌, [], ◌∷◌, length, IsTrue, IsFalse, IfErr, OnOk};
 ghost use Rattle.report_reader.specs.Cursor.{Cursor};
-ghost use Rattle.report_reader.specs.Reading.{Reads, StopsAt, first_piece, left_of, piece_length};
+ghost use Rattle.report_reader.specs.Reading.{Reads, ReadsPieces, StopsAt, first_piece, left_of, piece_length};
 
 use crate::refusals::Stop;
 use std::marker::Model;
@@ -64,6 +64,8 @@ impl<'a> Pieces<'a> {
     /// Goes on behind the next piece.
     pub(crate) fn pass(&mut self)
         ensures text { Reads self.old self.new (first_piece (left_of self.old)) }
+        ensures piece { 0 < length (first_piece (left_of self.old))
+            → ReadsPieces self.old self.new (first_piece (left_of self.old) ∷ []) }
         ensures same_input { self.new.bytes ≡ self.old.bytes }
         ensures forward { self.old.at ≤ self.new.at }
         ensures within { self.new.at ≤ length self.new.bytes }
@@ -74,6 +76,7 @@ impl<'a> Pieces<'a> {
     /// Goes on behind the next piece where it is this text.
     pub(crate) fn take(&mut self, text: &[u8]) -> bool
         ensures text { IsTrue result → Reads self.old self.new text.now }
+        ensures piece { IsTrue result → 0 < length text.now → ReadsPieces self.old self.new (text.now ∷ []) }
         ensures other { IsFalse result → self.new ≡ self.old }
         ensures not_text { IsFalse result → first_piece (left_of self.old) ≡ text.now → ⊥ }
         ensures same_input { self.new.bytes ≡ self.old.bytes }
@@ -92,6 +95,7 @@ impl<'a> Pieces<'a> {
     /// Goes on behind the next piece, which has to be this text.
     pub(crate) fn expect(&mut self, text: &[u8]) -> Result<(), Stop>
         ensures text { OnOk result (Reads self.old self.new text.now) }
+        ensures piece { OnOk result (0 < length text.now → ReadsPieces self.old self.new (text.now ∷ [])) }
         ensures refused { IfErr result (StopsAt (λ word. word ≡ text.now) (λ word. word) self.old self.new) }
         ensures same_input { self.new.bytes ≡ self.old.bytes }
     {

@@ -6,6 +6,8 @@ use Rattle.report_text.specs.PartText.{action_text, behind_space}
 use Rattle.report_reader.proofs.Reading.{Reads-after, Reads-behind, Reads-piece}
 use Rattle.report_reader.proofs.Numerals.{one_number}
 use Rattle.report_reader.proofs.Stopping.{same_piece}
+use Rattle.report_reader.proofs.CutReading.{cut_after, piece_of}
+use Rattle.report_reader.proofs.Numerals.{decimal_some}
 use Rattle.report_reader.proofs.items.read_action.Goals as goal
 
 pub returns-then-take-clause-text : goal.returns-then-take-clause-text
@@ -43,3 +45,16 @@ returns-then-number-lt1-clause-refused c = record {
       let one = one_number c.in-Some.number n (omega (arith, c.if-number-lt1.true)) (omega (arith, below)) c.in-Some.ensures.text seen in
       absurd (omega (arith, one, some, c.if-number-lt1.true)));
 }
+
+pub returns-then-take-clause-piece : goal.returns-then-take-clause-piece
+unfolding action_text
+returns-then-take-clause-piece c = c.if-take.ensures.piece refl (omega arith)
+
+pub returns-clause-piece : goal.returns-clause-piece
+unfolding action_text behind_space
+returns-clause-piece c =
+    let number = c.in-Some.number in
+    let one : number ≡ number - 1 + 1 = omega (arith, c.if-number-lt1.false) in
+    cut_after (c.if-take.ensures.other refl)
+    (piece_of (decimal (number - 1 + 1)) c.next.ensures.first (c.in-Some.ensures.text ∙ ap decimal one)
+    (decimal_some (number - 1 + 1) (omega (arith, c.in-Some.ensures.below))) c.pass.ensures.piece)

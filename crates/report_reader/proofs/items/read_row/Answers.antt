@@ -8,6 +8,7 @@ use Rattle.report_text.specs.PartText.{row_text}
 use Rattle.report_reader.proofs.Reading.{Reads-after}
 use Rattle.report_reader.specs.Reading.{StopsAt}
 use Rattle.report_reader.proofs.Stopping.{err_gives, same_piece}
+use Rattle.report_reader.proofs.CutReading.{cut_after}
 use Rattle.report_reader.proofs.items.read_row.Goals as goal
 
 pub returns-then-take-clause-text : goal.returns-then-take-clause-text
@@ -52,3 +53,22 @@ returns-in_err-read_column-clause-refused c =
           (λ is. c.if-take-3.ensures.not_text refl (same_piece second ∙ is))
           (λ n small is. stop.no_value n (omega arith, small) (same_piece third ∙ is));
     })
+
+pub returns-then-take-clause-piece : goal.returns-then-take-clause-piece
+unfolding row_text
+returns-then-take-clause-piece c = c.if-take.ensures.piece refl (omega arith)
+
+pub returns-then-take-2-clause-piece : goal.returns-then-take-2-clause-piece
+unfolding row_text
+returns-then-take-2-clause-piece c = cut_after (c.if-take.ensures.other refl) (c.if-take-2.ensures.piece refl (omega arith))
+
+pub returns-then-take-3-clause-piece : goal.returns-then-take-3-clause-piece
+unfolding row_text
+returns-then-take-3-clause-piece c =
+    cut_after (c.if-take.ensures.other refl) (cut_after (c.if-take-2.ensures.other refl) (c.if-take-3.ensures.piece refl (omega arith)))
+
+pub returns-clause-piece : goal.returns-clause-piece
+unfolding row_text
+returns-clause-piece c =
+    cut_after (c.if-take.ensures.other refl) (cut_after (c.if-take-2.ensures.other refl)
+    (cut_after (c.if-take-3.ensures.other refl) c.in_ok-read_column.ensures.piece))
