@@ -1,4 +1,7 @@
 mod CertifiedSides
+mod CheckedBlocks
+mod CheckedCorners
+mod CheckedSides
 mod Faultless
 mod FirstBroken
 pub mod GainExact
@@ -17,8 +20,12 @@ pub mod LeftSteps
 mod ColumnSums
 mod OneFault
 mod OneVerdict
+mod PairSums
+mod PlannedPlans
 mod RestOfRow
+mod RuleEnds
 mod Accepted
+mod Shares
 mod Sizes
 mod Whole
 pub mod Elements

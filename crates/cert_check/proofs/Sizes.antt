@@ -79,6 +79,10 @@ reach_put (y ∷ xs) (suc k) x v h e = omega (arith, reach_put xs k x v (omega a
 pub sum_size : (r x b : ℤ) → unsigned_abs x ≤ 2 ^ 120 → unsigned_abs b ≤ 2 ^ 120 → r ≡ to_z w128 (of_z w128 x) +ℤ to_z w128 (of_z w128 b) → unsigned_abs (to_z w128 (of_z w128 r)) ≤ unsigned_abs x + unsigned_abs b
 sum_size r x b p q e = rw (e, returned x (omega arith), returned b (omega arith), returned (x +ℤ b) (omega (arith, sum_magnitude x b))) (sum_magnitude x b)
 
+pub sum_passed : (r x b : ℤ) → unsigned_abs x ≤ 2 ^ 120 → unsigned_abs b ≤ 2 ^ 120 → r ≡ x +ℤ to_z w128 (of_z w128 b)
+    → to_z w128 (of_z w128 r) ≡ x +ℤ b
+sum_passed r x b p q e = rw (e, returned b (omega arith)) (returned (x +ℤ b) (omega (arith, sum_magnitude x b)))
+
 pub put_length : (xs : List ℤ) (k : ℕ) (v : ℤ) → length (slice_set xs k v) ≡ length xs
 put_length [] k v = refl
 put_length (x ∷ xs) zero v = refl

@@ -1,21 +1,21 @@
 -- What an accepted report shows, block by block: sides that multipliers certify, and programs without a solution (the duality of linear
 -- programs, Dantzig 1963).
-use Rattle.std.specs.Prelude.{◌≡◌, ◌⊎◌, Bool, false, true, ℕ, ℤ, pos, ◌+ℤ◌, ◌*ℤ◌, ◌≤ℤ◌, List, Some, slice_get, slice_index_or, All}
+use Rattle.std.specs.Prelude.{◌≡◌, ◌⊎◌, Bool, false, true, ℕ, ℤ, pos, ◌+ℤ◌, ◌*ℤ◌, ◌≤ℤ◌, List, Some, slice_get, All}
 use Rattle.corr_game.specs.declared.notions.Notion.{Notion}
 use Rattle.corr_game.specs.Game.{GameView}
 use Rattle.corr_num.specs.Narrow.{Narrow}
 use Rattle.connected_pairs.specs.Connected.{PairsView}
-use Rattle.lp_form.specs.Certificates.{Certify, ShowEmpty}
+use Rattle.lp_form.specs.Certificates.{ShowEmpty}
 use Rattle.lp_form.specs.Program.{LpView, joined}
 use Rattle.plan_polytope.specs.NotionProgram.{IsProgramOf}
 use Rattle.plane_hull.specs.declared.directions.Dir.{Dir}
-use Rattle.plane_hull.specs.declared.sides.Point.{Point}
-use Rattle.plane_hull.specs.declared.sides.SideRow.{SideRow}
-use Rattle.report_form.specs.Certified.{IsCertified, IsPointIn}
+use Rattle.report_form.specs.Certified.{IsCertified}
 use Rattle.report_form.specs.declared.reports.Block.{Block}
 use Rattle.report_form.specs.declared.reports.Block.TheVariants.{Found, Empty, TooWide}
 use Rattle.report_form.specs.declared.reports.NamedBlock.{NamedBlock}
 use Rattle.cert_check.specs.declared.programs.Program.{Program}
+use Rattle.cert_check.specs.declared.verdicts.Cause.{Cause}
+use Rattle.cert_check.specs.declared.verdicts.Cause.TheVariants.{Sign, Width}
 use Rattle.cert_check.specs.declared.verdicts.Verdict.{Verdict}
 use Rattle.cert_check.specs.declared.verdicts.Verdict.TheVariants.{Yes, Partial}
 
@@ -29,10 +29,11 @@ pub record Passes (dir : Dir) (one two : ℤ) : Type 0 where
   pub second : Narrow two
   pub over : pos 0 ≤ℤ (dir.a *ℤ one +ℤ dir.b *ℤ two)
 
--- a side's multipliers certify its direction, and this is their point
-pub record IsCertifiedAt (g : GameView) (lp : LpView) (point : Point) (side : SideRow) : Type 0 where
-  pub multipliers : Certify lp side.dir.a side.dir.b side.den side.first side.second
-  pub point_is : IsPointIn g point (slice_index_or side.first 0 (pos 0)) (slice_index_or side.second 0 (pos 0)) side.den
+-- the first of these that fails has this cause
+abbrev pub FailsAt : Dir → ℤ → ℤ → Cause → Type 0
+FailsAt dir one two cause =
+    ((cause ≡ Width) × (Narrow one × Narrow two → ⊥))
+    ⊎ ((cause ≡ Sign) × (Narrow one × Narrow two) × (pos 0 ≤ℤ (dir.a *ℤ one +ℤ dir.b *ℤ two) → ⊥))
 
 -- what is certified of the notion's program: a polygon's sides, or that there is no solution
 abbrev pub IsCertifiedBlock : GameView → PairsView → Notion → Block → Type 0

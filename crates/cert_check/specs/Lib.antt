@@ -1,6 +1,7 @@
 pub mod Bounds
 pub mod Certified
 pub mod CornerRules
+pub mod Ends
 pub mod Fits
 pub mod Gains
 pub mod Leaving

@@ -11,7 +11,7 @@ use Rattle.report_form.specs.Certified.{IsPointIn}
 use Rattle.report_form.specs.declared.reports.Corner.{Corner}
 use Rattle.cert_check.specs.declared.verdicts.Cause.{Cause}
 use Rattle.cert_check.specs.declared.verdicts.Cause.TheVariants as cause
-use Rattle.cert_check.specs.Rules.{by_column}
+use Rattle.cert_check.specs.Rules.{IsFirstBroken, by_column}
 
 -- a rule on how many multipliers there are, on a side's point, on a column's width or its sign, or on the first multiplier
 pub data CertificateRule : Type 0 where
@@ -57,3 +57,7 @@ EmptyRule lp multipliers above = pos 0 <ℤ slice_index_or multipliers 0 (pos 0)
 
 abbrev pub empty_rules : LpView → List CertificateRule
 empty_rules lp = per_row ∷ by_column width sign 0 lp.cols ++ above ∷ []
+
+-- the first rule that doesn't hold has this cause
+abbrev pub IsFirstCause : (CertificateRule → Type 0) → List CertificateRule → Cause → Type 0
+IsFirstCause Holds rules cause = (rule : CertificateRule) × (cause_of rule ≡ cause) × IsFirstBroken Holds rules rule

@@ -65,6 +65,10 @@ pub data IsBlockFault (g : GameView) (lp : LpView) (notion : Notion) : Block →
 abbrev pub IsTrueOf : GameView → PairsView → NamedBlock → Type 0
 IsTrueOf g p named = (lp : LpView) × IsProgramOf g p named.notion lp × IsTrueBlock g lp named.notion named.block
 
+-- the first rule that a block breaks of its notion's program stands at this item and has this cause
+abbrev pub IsFaultIn : GameView → PairsView → Notion → Block → Item → Cause → Type 0
+IsFaultIn g p notion block at cause = (lp : LpView) × IsProgramOf g p notion lp × IsBlockFault g lp notion block at cause
+
 -- nothing is said but that a tableau is too wide
 abbrev pub IsTooWide : NamedBlock → Type 0
 IsTooWide named = (basis : List ℕ) × (place : Place) × (named.block ≡ TooWideAt basis place)

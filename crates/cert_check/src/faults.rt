@@ -1,3 +1,6 @@
+ghost use Rattle.std.specs.Prelude.{◌≡◌};
+ghost use Rattle.cert_check.specs.Ends.{placed};
+
 use crate::verdicts::{Cause, Item};
 use std::alloc::{AllocError, AllocFailed};
 
@@ -67,7 +70,9 @@ impl<T: Drop> From<AllocFailed<T>> for BlockEnd {
 }
 
 /// A broken rule as the fault of this item.
-pub fn at_item(end: RuleEnd, item: Item) -> BlockEnd {
+pub fn at_item(end: RuleEnd, item: Item) -> BlockEnd
+    ensures { result ≡ placed item end }
+{
     match end {
         RuleEnd::Broken(cause) => BlockEnd::Fault(Fault { item, cause }),
         RuleEnd::NoMemory => BlockEnd::NoMemory,

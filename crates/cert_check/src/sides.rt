@@ -1,14 +1,20 @@
 // The rules of a side and of the multipliers of an empty program.
-ghost use Rattle.std.specs.Prelude.{◌≡◌, ℕ, ◌+◌, ◌^◌, ◌<◌, ◌≤◌, pos, neg_ℤ, ◌+ℤ◌, ◌*ℤ◌, ◌≤ℤ◌, All, IfOk, IsTrue, Some, length, slice_get, slice_index_or, unsigned_abs};
-ghost use Rattle.corr_game.specs.Game.{IsGame, scale_of};
+ghost use Rattle.std.specs.Prelude.{◌≡◌, ◌↔◌, ℕ, ◌+◌, ◌^◌, ◌<◌, ◌≤◌, pos, neg_ℤ, ◌+ℤ◌, ◌*ℤ◌, ◌≤ℤ◌, All, IfErr, IfOk, IsTrue, List, length, slice_index_or, unsigned_abs};
+ghost use Rattle.corr_game.specs.Game.{GameView, IsGame, scale_of};
 ghost use Rattle.corr_num.specs.Fraction.{IsSameNumber};
 ghost use Rattle.corr_num.specs.Narrow.{Narrow};
-ghost use Rattle.lp_form.specs.Certificates.{Certify, ShowEmpty, left_over};
-ghost use Rattle.plane_hull.specs.declared.sides.Point.{Point};
+ghost use Rattle.lp_form.specs.Certificates.{left_over};
 ghost use Rattle.report_form.specs.Certified.{IsPointIn};
+ghost use Rattle.report_form.specs.Points.{points_of};
 ghost use Rattle.report_form.specs.Ranges.{IsPositive, IsScale, IsSide};
+ghost use Rattle.report_form.specs.declared.reports.Corner.{Corner};
 ghost use Rattle.cert_check.specs.Bounds.{AreWithin, IsBounded};
-ghost use Rattle.cert_check.specs.Certified.{IsCertifiedAt, Passes, whole_of};
+ghost use Rattle.cert_check.specs.Certified.{FailsAt, Passes, whole_of};
+ghost use Rattle.cert_check.specs.Ends.{IsBreak};
+ghost use Rattle.cert_check.specs.Rules.{AllHold, by_column};
+ghost use Rattle.cert_check.specs.SideRules.{EmptyRule, IsFirstCause, SideRule, empty_rules, side_rules, sign, width};
+ghost use Rattle.cert_check.specs.Truth.{IsTrueSide};
+ghost use Rattle.cert_check.specs.declared.faults.RuleEnd.TheVariants.{Broken};
 
 use crate::faults::RuleEnd;
 use crate::multipliers::{add_row, column_products};
@@ -23,6 +29,7 @@ use std::alloc::{AllocError as NoMemory, Global};
 /// Goes on where a rule holds.
 pub fn keep(holds: bool, cause: Cause) -> Result<(), RuleEnd>
     ensures holds { IfOk result (λ _. IsTrue holds) }
+    ensures broken { IfErr result (λ end. (end ≡ Broken cause) × (IsTrue holds → ⊥)) }
 {
     if holds {
         Ok(())
@@ -42,7 +49,9 @@ pub fn check_side(
 ) -> Result<(), RuleEnd>
     requires bounded { IsBounded program.now }
     requires ranges { IsSide (length points.now) side.now }
-    ensures { IfOk result (λ _. (point : Point) × (slice_get points.now side.now.corner ≡ Some point) × IsCertifiedAt game.now (whole_of program.now) point side.now) }
+    ensures held { IfOk result (λ _. (corners : List Corner) → points.now ≡ points_of corners → IsTrueSide game.now (whole_of program.now) corners side.now) }
+    ensures broken { IfErr result (IsBreak (λ cause. (corners : List Corner) → points.now ≡ points_of corners
+        → IsFirstCause (SideRule game.now (whole_of program.now) corners side.now) (side_rules (whole_of program.now)) cause)) }
 {
     keep(has_lengths(program, side), Cause::Length)?;
     keep(has_point(game, side, &points[side.corner]), Cause::Point)?;
@@ -54,6 +63,8 @@ pub fn check_side(
 fn has_lengths(program: &Program, side: &SideRow) -> bool
     ensures first { IsTrue result → length side.now.first ≡ length program.now.base.rows + length program.now.more.rows }
     ensures second { IsTrue result → length side.now.second ≡ length program.now.base.rows + length program.now.more.rows }
+    ensures back { length side.now.first ≡ length program.now.base.rows + length program.now.more.rows
+        → length side.now.second ≡ length program.now.base.rows + length program.now.more.rows → IsTrue result }
 {
     let rows = program.rows();
     side.first.len() == rows && side.second.len() == rows
@@ -66,7 +77,7 @@ fn has_point(game: &Game, side: &SideRow, point: &Point) -> bool
     requires den { IsPositive side.now.den }
     requires first_narrow { All Narrow side.now.first }
     requires second_narrow { All Narrow side.now.second }
-    ensures { IsTrue result → IsPointIn game.now point.now (slice_index_or side.now.first 0 (pos 0)) (slice_index_or side.now.second 0 (pos 0)) side.now.den }
+    ensures { IsTrue result ↔ IsPointIn game.now point.now (slice_index_or side.now.first 0 (pos 0)) (slice_index_or side.now.second 0 (pos 0)) side.now.den }
 {
     is_share(game, Side::One, (*side.first.at(0), side.den), &point.one)
         && is_share(game, Side::Two, (*side.second.at(0), side.den), &point.two)
@@ -76,7 +87,7 @@ fn has_point(game: &Game, side: &SideRow, point: &Point) -> bool
 pub fn is_share(game: &Game, side: Side, share: (i128, i128), payoff: &Frac) -> bool
     requires narrow { Narrow share.0 }
     requires den { IsPositive share.1 }
-    ensures { IsTrue result → IsSameNumber payoff.now (record { num = share.0; den = share.1 *ℤ scale_of side game.now }) }
+    ensures { IsTrue result ↔ IsSameNumber payoff.now (record { num = share.0; den = share.1 *ℤ scale_of side game.now }) }
 {
     Frac::of(share.0, in_file(game, side, share.1)) == *payoff
 }
@@ -107,7 +118,10 @@ fn check_columns(alloc: Global, program: &Program, side: &SideRow) -> Result<(),
     requires den { IsPositive side.now.den }
     requires first_narrow { All Narrow side.now.first }
     requires second_narrow { All Narrow side.now.second }
-    ensures { IfOk result (λ _. Certify (whole_of program.now) side.now.dir.a side.now.dir.b side.now.den side.now.first side.now.second) }
+    ensures held { IfOk result (λ _. (g : GameView) (corners : List Corner)
+        → AllHold (SideRule g (whole_of program.now) corners side.now) (by_column width sign 0 program.now.more.cols)) }
+    ensures broken { IfErr result (IsBreak (λ cause. (g : GameView) (corners : List Corner)
+        → IsFirstCause (SideRule g (whole_of program.now) corners side.now) (by_column width sign 0 program.now.more.cols) cause)) }
 {
     let first = reduced(alloc, program, Side::One, &side.first, side.den)?;
     let second = reduced(alloc, program, Side::Two, &side.second, side.den)?;
@@ -148,6 +162,7 @@ fn opposite(number: i128) -> i128
 pub fn both_narrow(one: i128, two: i128) -> bool
     ensures one_narrow { IsTrue result → Narrow one }
     ensures two_narrow { IsTrue result → Narrow two }
+    ensures back { Narrow one → Narrow two → IsTrue result }
 {
     narrow(one) && narrow(two)
 }
@@ -163,7 +178,8 @@ fn weighed(dir: &Dir, one: i128, two: i128) -> i128
 }
 
 fn check_column(dir: &Dir, one: i128, two: i128) -> Result<(), RuleEnd>
-    ensures { IfOk result (λ _. Passes dir.now one two) }
+    ensures held { IfOk result (λ _. Passes dir.now one two) }
+    ensures broken { IfErr result (IsBreak (FailsAt dir.now one two)) }
 {
     keep(both_narrow(one, two), Cause::Width)?;
     keep(weighed(dir, one, two) >= 0, Cause::Sign)?;
@@ -175,7 +191,8 @@ fn check_column(dir: &Dir, one: i128, two: i128) -> Result<(), RuleEnd>
 pub fn check_multipliers(alloc: Global, program: &Program, list: &NumList) -> Result<(), RuleEnd>
     requires bounded { IsBounded program.now }
     requires narrow { All Narrow list.now }
-    ensures { IfOk result (λ _. ShowEmpty (whole_of program.now) list.now) }
+    ensures held { IfOk result (λ _. AllHold (EmptyRule (whole_of program.now) list.now) (empty_rules (whole_of program.now))) }
+    ensures broken { IfErr result (IsBreak (IsFirstCause (EmptyRule (whole_of program.now) list.now) (empty_rules (whole_of program.now)))) }
 {
     keep(list.len() == program.rows(), Cause::Length)?;
     let products = column_products(alloc, program, list)?;

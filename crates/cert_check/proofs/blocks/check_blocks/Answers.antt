@@ -1,20 +1,24 @@
--- Each block is in its ranges.
-use Rattle.std.proofs.Common.{refl, arith}
+-- Each block is in its ranges; the first that isn't true has the fault.
+use Rattle.std.proofs.Common.{◌≡◌, refl, sym, subst, arith}
 use Rattle.std.proofs.lemmas.Option.{slice_get_within}
-use Rattle.cert_check.proofs.CertifiedSides.{blocks_more}
+use Rattle.cert_check.specs.Truth.{IsTrueOf}
+use Rattle.cert_check.proofs.CheckedBlocks.{all_before, one_before, true_certified}
 use Rattle.cert_check.proofs.Elements.{block_at}
 use Rattle.cert_check.proofs.blocks.check_blocks.Goals as goal
 
 pub check_block-requires-clause-ranges : goal.check_block-requires-clause-ranges
 check_block-requires-clause-ranges c = block_at 0 _ _ _ c.requires.ranges c.at-named.ensures.item
 
+pub loop-k-preserved : goal.loop-k-preserved
+loop-k-preserved c =
+    (refl, one_before (IsTrueOf c.args.game.now c.args.pairs.now) c.args.blocks.now c.loop-k.k c.at-named.result.now c.loop-k.invariant.1 c.at-named.ensures.item c.in-Ok.ensures.held)
+
 pub returns-then-some_too_wide-clause-certified : goal.returns-then-some_too_wide-clause-certified
 returns-then-some_too_wide-clause-certified c = λ accepted k named here.
-    c.loop-k.invariant.1 k named (omega (arith, slice_get_within c.args.blocks.now k named here, c.loop-k-test.false, c.len-k-end.ensures.count)) here
+    let holds = c.loop-k.invariant.1 k named (omega (arith, slice_get_within c.args.blocks.now k named here, c.loop-k-test.false, c.len-k-end.ensures.count)) here in
+    true_certified c.args.game.now c.args.pairs.now named.notion named.block (block_at 0 c.args.blocks.now k named c.requires.ranges here) holds.0 holds.1 holds.2
 
 pub returns-else-some_too_wide-clause-certified : goal.returns-else-some_too_wide-clause-certified
 returns-else-some_too_wide-clause-certified c = λ accepted k named here.
-    c.loop-k.invariant.1 k named (omega (arith, slice_get_within c.args.blocks.now k named here, c.loop-k-test.false, c.len-k-end.ensures.count)) here
-
-pub loop-k-preserved : goal.loop-k-preserved
-loop-k-preserved c = (refl, blocks_more c.args.game.now c.args.pairs.now c.args.blocks.now c.loop-k.k c.at-named.result.now c.loop-k.invariant.1 c.at-named.ensures.item c.in-Ok.ensures)
+    let holds = c.loop-k.invariant.1 k named (omega (arith, slice_get_within c.args.blocks.now k named here, c.loop-k-test.false, c.len-k-end.ensures.count)) here in
+    true_certified c.args.game.now c.args.pairs.now named.notion named.block (block_at 0 c.args.blocks.now k named c.requires.ranges here) holds.0 holds.1 holds.2
