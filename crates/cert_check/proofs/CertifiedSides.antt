@@ -1,12 +1,9 @@
 -- The points that were put are those of the corners.
-use Rattle.std.proofs.Common.{◌≡◌, ◌⊎◌, inl, inr, ℕ, ◌+◌, ◌<◌, ◌≤◌, suc, List, [], ◌∷◌, length, map, refl, sym, ap, ap₂, subst, ◌∙◌, arith}
-use Rattle.std.specs.Prelude.{Some, option_map, slice_get}
-use Rattle.std.proofs.lemmas.Bool.{cases_lt}
-use Rattle.std.proofs.lemmas.Option.{slice_get-map}
+use Rattle.std.proofs.Common.{◌≡◌, ℕ, ◌<◌, suc, List, [], ◌∷◌, length, map, refl, ap₂, ◌∙◌, arith}
+use Rattle.std.specs.Prelude.{Some, slice_get}
 use Rattle.plane_hull.specs.declared.sides.Point.{Point}
 use Rattle.report_form.specs.declared.reports.Corner.{Corner}
 use Rattle.report_form.specs.Points.{points_of}
-use Rattle.sequences.proofs.Adding.{within}
 
 same_map : (f : Corner → Point) (corners : List Corner) (points : List Point) → length points ≡ length corners
     → ((k : ℕ) (corner : Corner) → k < length corners → slice_get corners k ≡ Some corner → slice_get points k ≡ Some (f corner))

@@ -1,5 +1,5 @@
 -- The rules of a block, and blocks one behind the other, put together from their parts.
-use Rattle.std.proofs.Common.{◌≡◌, ◌⊎◌, inl, inr, Bool, true, false, ℕ, suc, ◌+◌, ◌<◌, ◌≤◌, List, [], ◌∷◌, All, Some, length, get_or, refl, sym, ap, subst, ◌∙◌, ℤ, pos, ◌<ℤ◌, arith}
+use Rattle.std.proofs.Common.{◌≡◌, inl, inr, Bool, true, false, ℕ, suc, ◌+◌, ◌≤◌, List, [], ◌∷◌, All, Some, length, get_or, refl, subst, ℤ, pos, ◌<ℤ◌, arith}
 use Rattle.std.specs.Prelude.{slice_get}
 use Rattle.std.proofs.lemmas.Bool.{cases_lt}
 use Rattle.std.proofs.lemmas.Int.{ints}
@@ -13,28 +13,25 @@ use Rattle.lp_form.specs.Program.{LpView}
 use Rattle.plan_polytope.specs.NotionProgram.{IsProgramOf}
 use Rattle.plane_hull.specs.Belt.{IsBelt}
 use Rattle.plane_hull.specs.BeltFault.{IsFaultOf}
-use Rattle.plane_hull.specs.declared.sides.Point.{Point}
 use Rattle.plane_hull.specs.declared.sides.SideRow.{SideRow}
 use Rattle.report_form.specs.Certified.{IsCertified}
 use Rattle.report_form.specs.Points.{points_of}
-use Rattle.report_form.specs.Ranges.{IsBlock, IsReport, IsSide}
+use Rattle.report_form.specs.Ranges.{IsBlock, IsReport}
 use Rattle.report_form.specs.View.{ReportView}
 use Rattle.report_form.specs.declared.reports.Block.{Block}
 use Rattle.report_form.specs.declared.reports.Block.TheVariants.{Found, Empty, TooWide}
 use Rattle.report_form.specs.declared.reports.Corner.{Corner}
 use Rattle.report_form.specs.declared.reports.NamedBlock.{NamedBlock}
 use Rattle.cert_check.specs.Certified.{IsCertifiedBlock, NoneTooWide, is_too_wide}
-use Rattle.cert_check.specs.CornerRules.{CornerRule, corner_rules}
-use Rattle.cert_check.specs.Rules.{AllHold, IsFirstBroken, by_column}
+use Rattle.cert_check.specs.Rules.{AllHold, by_column}
 use Rattle.cert_check.specs.Scales.{HasScales}
 use Rattle.cert_check.specs.SideRules.{CertificateRule, EmptyRule, IsFirstCause, SideRule, above, empty_rules, side_rules, sign, width}
-use Rattle.cert_check.specs.Truth.{AreBefore, IsBlockFault, IsFaultIn, IsTooWide, IsTrueBlock, IsTrueCorner, IsTrueOf, IsTrueReport, IsTrueSide, IsVerdictOn, at_belt, at_corner, at_multipliers, at_side, broken, partly, whole}
+use Rattle.cert_check.specs.Truth.{AreBefore, IsBlockFault, IsFaultIn, IsTooWide, IsTrueBlock, IsTrueCorner, IsTrueOf, IsTrueSide, IsVerdictOn, at_belt, at_multipliers, at_side, broken, partly, whole}
 use Rattle.cert_check.specs.declared.verdicts.Cause.{Cause}
 use Rattle.cert_check.specs.declared.verdicts.Cause.TheVariants as causes
 use Rattle.cert_check.specs.declared.verdicts.Item.{Item}
 use Rattle.cert_check.specs.declared.verdicts.Item.TheVariants as item
 use Rattle.cert_check.specs.declared.verdicts.Verdict.TheVariants.{No, Partial, Yes}
-use Rattle.cert_check.proofs.Elements.{all_at, block_at}
 use Rattle.cert_check.proofs.FirstBroken.{back_holds, front_holds, second_holds}
 
 -- ---- what the rules show

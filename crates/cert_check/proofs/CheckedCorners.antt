@@ -1,5 +1,5 @@
 -- The rules of a corner, put together from their parts.
-use Rattle.std.proofs.Common.{◌≡◌, inl, inr, ℕ, ◌<◌, ◌≤◌, List, [], ◌∷◌, All, Some, length, get_or, refl, sym, ap, subst, ◌∙◌, ℤ, pos, unsigned_abs, arith}
+use Rattle.std.proofs.Common.{◌≡◌, inl, inr, List, [], ◌∷◌, All, Some, length, get_or, sym, ap, subst, ◌∙◌, arith}
 use Rattle.std.specs.Prelude.{option_map, slice_get}
 use Rattle.std.proofs.lemmas.Int.{ints}
 use Rattle.std.proofs.lemmas.List.{length-map}
@@ -17,7 +17,7 @@ use Rattle.cert_check.specs.CornerRules.{AreReduced, CornerRule, corner_rules}
 use Rattle.cert_check.specs.Rules.{AllHold, IsFirstBroken}
 use Rattle.cert_check.specs.Truth.{IsTrueCorner}
 use Rattle.cert_check.specs.declared.verdicts.Cause.{Cause}
-use Rattle.cert_check.specs.declared.verdicts.Cause.TheVariants.{Gain, Point, Total, Width}
+use Rattle.cert_check.specs.declared.verdicts.Cause.TheVariants.{Gain, Point, Width}
 use Rattle.cert_check.proofs.Elements.{all_at}
 use Rattle.cert_check.proofs.FirstBroken.{broken_in_front}
 

@@ -1,5 +1,5 @@
 -- The rules of a side and of an empty program's multipliers, put together from their parts.
-use Rattle.std.proofs.Common.{◌≡◌, inl, inr, ℕ, ◌+◌, ◌<◌, ◌≤◌, List, [], ◌∷◌, ◌++◌, length, get_or, refl, sym, ap, ◌∙◌, subst, ℤ, pos, ◌≤ℤ◌, ◌<ℤ◌, arith}
+use Rattle.std.proofs.Common.{◌≡◌, inl, inr, ℕ, ◌+◌, ◌<◌, List, [], ◌∷◌, length, get_or, refl, sym, ap, ◌∙◌, subst, ℤ, pos, ◌≤ℤ◌, ◌<ℤ◌, arith}
 use Rattle.std.specs.Prelude.{Some, option_map, slice_get, slice_index_or}
 use Rattle.std.proofs.lemmas.List.{length-append, length-map}
 use Rattle.std.proofs.lemmas.Option.{slice_get-get_or, slice_get-map}
@@ -14,7 +14,7 @@ use Rattle.report_form.specs.Points.{points_of}
 use Rattle.report_form.specs.declared.reports.Corner.{Corner}
 use Rattle.sequences.proofs.Adding.{within}
 use Rattle.cert_check.specs.Rules.{AllHold, IsFirstBroken, by_column}
-use Rattle.cert_check.specs.SideRules.{CertificateRule, EmptyRule, IsAtCorner, IsFirstCause, SideRule, above, cause_of, empty_rules, per_row, point, side_rules, sign, width}
+use Rattle.cert_check.specs.SideRules.{CertificateRule, EmptyRule, IsAtCorner, IsFirstCause, SideRule, above, empty_rules, per_row, point, side_rules, sign, width}
 use Rattle.cert_check.specs.Truth.{IsTrueSide}
 use Rattle.cert_check.specs.declared.verdicts.Cause.{Cause}
 use Rattle.cert_check.specs.declared.verdicts.Cause.TheVariants as cause
@@ -109,18 +109,22 @@ module _ (base more : LpView) (multipliers products : List ℤ)
   above_first count each none = (
     above,
     refl,
-    inr (count ∙ sym all_rows_of,
-    broken_behind (EmptyRule (joined base more) multipliers) Columns (above ∷ []) above (columns_kept each) (inl (refl, none))),
+    inr (
+      count ∙ sym all_rows_of,
+      broken_behind (EmptyRule (joined base more) multipliers) Columns (above ∷ []) above (columns_kept each) (inl (refl, none)),
+    ),
   )
 
   column_fails_first : (rule : CertificateRule) (k : ℕ) → k < more.cols → length multipliers ≡ length base.rows + length more.rows
       → ((j : ℕ) → j < k → KeptAt j) → IsFirstBroken (EmptyRule (joined base more) multipliers) (width k ∷ sign k ∷ []) rule
       → IsFirstBroken (EmptyRule (joined base more) multipliers) (empty_rules (joined base more)) rule
   column_fails_first rule k inside count before fails =
-      inr (count ∙ sym all_rows_of,
-      broken_in_front (EmptyRule (joined base more) multipliers) Columns (above ∷ []) rule
-      (column_breaks (EmptyRule (joined base more) multipliers) width sign 0 more.cols k rule (omega arith) (omega (arith, inside))
-      (λ j low below. kept_holds j (before j below)) fails))
+      inr (
+        count ∙ sym all_rows_of,
+        broken_in_front (EmptyRule (joined base more) multipliers) Columns (above ∷ []) rule
+            (column_breaks (EmptyRule (joined base more) multipliers) width sign 0 more.cols k rule (omega arith) (omega (arith, inside))
+            (λ j low below. kept_holds j (before j below)) fails),
+      )
 
   pub width_first : (k : ℕ) → k < more.cols → length multipliers ≡ length base.rows + length more.rows → ((j : ℕ) → j < k → KeptAt j)
       → (Narrow (slice_index_or products k (pos 0)) → ⊥)

@@ -69,8 +69,14 @@ column_breaks Holds one two first zero column broken low high before here = absu
 column_breaks Holds one two first (suc count) column broken low high before here = elim (cases_lt first column) [
   | inl behind ↦
       let held = before first (omega arith) behind in
-      inr (held.0, inr (held.1, column_breaks Holds one two (first + 1) count column broken (omega arith) (omega arith)
-      (λ k above below. before k (omega arith) below) here))
+      inr (
+        held.0,
+        inr (
+          held.1,
+          column_breaks Holds one two (first + 1) count column broken (omega arith) (omega arith)
+              (λ k above below. before k (omega arith) below) here,
+        ),
+      )
   | inr at ↦
       let same : column ≡ first = omega arith in
       let there = subst (λ (k : ℕ). IsFirstBroken Holds (one k ∷ two k ∷ []) broken) same here in

@@ -1,15 +1,15 @@
 -- A plan is reduced exactly where it fits each set: it names one of the set's actions where it plays the set's own sequence, and none
 -- elsewhere.
-use Rattle.std.proofs.Common.{◌≡◌, ◌↔◌, ℕ, ◌<◌, ◌≤◌, Bool, true, false, IsTrue, not, List, All, length, Option, Some, None, refl, sym, subst, ◌∙◌, arith}
-use Rattle.std.specs.Prelude.{slice_get, slice_index_or}
-use Rattle.std.proofs.lemmas.Option.{get_or_from_slice_get, slice_get_within}
+use Rattle.std.proofs.Common.{◌≡◌, ◌↔◌, ℕ, ◌<◌, Bool, true, false, IsTrue, not, List, length, Option, Some, None, refl, sym, subst}
+use Rattle.std.specs.Prelude.{slice_get}
+use Rattle.std.proofs.lemmas.Option.{slice_get_within}
 use Rattle.corr_game.specs.declared.nodes.SetInfo.{SetInfo}
 use Rattle.corr_game.specs.declared.sides.Side.{Side}
 use Rattle.corr_game.specs.Game.{GameView, IsGame, sets_of}
 use Rattle.sequences.specs.Number.{IsOwn, Plays, side_of}
 use Rattle.connected_pairs.specs.Connected.{IsPairs, IsPairsOf, PairsView}
 use Rattle.equilibrium.specs.Reach.{leads}
-use Rattle.equilibrium.specs.ReducedPlan.{IsReduced, names_some}
+use Rattle.equilibrium.specs.ReducedPlan.{IsReduced}
 use Rattle.equilibrium_solutions.proofs.Recalled.{has_recall}
 use Rattle.equilibrium_solutions.proofs.ReducedPlans.{leads_plays}
 use Rattle.cert_check.specs.Planned.{FitsAt}

@@ -9,7 +9,7 @@ use Rattle.plane_hull.specs.declared.sides.SideRow.{SideRow}
 use Rattle.report_form.specs.declared.reports.Corner.{Corner}
 use Rattle.cert_check.specs.Certified.{FailsAt, Passes}
 use Rattle.cert_check.specs.Ends.{IsBreak, IsFaultWith, placed}
-use Rattle.cert_check.specs.SideRules.{CertificateRule, IsFirstCause, SideRule, sign, width}
+use Rattle.cert_check.specs.SideRules.{IsFirstCause, SideRule, sign, width}
 use Rattle.cert_check.specs.declared.faults.RuleEnd.{RuleEnd}
 use Rattle.cert_check.specs.declared.faults.RuleEnd.TheVariants.{Broken, NoMemory}
 use Rattle.cert_check.specs.declared.faults.BlockEnd.{BlockEnd}

@@ -1,5 +1,5 @@
 -- A fraction is a payoff exactly where its lowest terms are.
-use Rattle.std.proofs.Common.{◌≡◌, ◌↔◌, ℤ, pos, ◌*ℤ◌, ◌<ℤ◌, sym, arith}
+use Rattle.std.proofs.Common.{◌↔◌, pos, ◌<ℤ◌, sym, arith}
 use Rattle.std.proofs.lemmas.Int.{ints}
 use Rattle.exact_algebra.proofs.Fractions.{fraction_trans_same}
 use Rattle.corr_num.specs.Fraction.{Fraction, IsReduced, IsSameNumber}

@@ -121,6 +121,7 @@ fn check_gain(
     requires whose { IsPairsOf game.now pairs.now }
     requires drawn { AreDrawn game.now list.now }
     requires entries { All (IsEntry game.now) (entries_of list.now) }
+    requires ranges { All IsPair list.now }
     ensures held { IfOk result (λ _. NoneImproves at.0 at.1 game.now no_slack (entries_of list.now)) }
     ensures broken { IfErr result (IsBreak (λ cause. (cause ≡ Gain at.1) × (NoneImproves at.0 at.1 game.now no_slack (entries_of list.now) → ⊥))) }
 {

@@ -31,8 +31,9 @@ pub fn gains(
 ) -> Result<bool, NoMemory>
     requires whose { IsPairsOf game.now pairs.now }
     requires drawn { AreDrawn game.now list.now }
-    ensures exact { IfOk result (λ gained. All (IsEntry game.now) (entries_of list.now) → All IsPair list.now
-        → (gained ≡ false) ↔ NoneImproves at.0 at.1 game.now no_slack (entries_of list.now)) }
+    requires entries { All (IsEntry game.now) (entries_of list.now) }
+    requires ranges { All IsPair list.now }
+    ensures exact { IfOk result (λ gained. (gained ≡ false) ↔ NoneImproves at.0 at.1 game.now no_slack (entries_of list.now)) }
 {
     let (notion, side) = at;
     // Read for their rules alone.

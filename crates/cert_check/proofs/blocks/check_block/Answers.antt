@@ -1,5 +1,5 @@
 -- The sides of a block that was found are in their ranges; its corners, its belt and its sides are true.
-use Rattle.std.proofs.Common.{◌≡◌, All, sym, subst}
+use Rattle.std.proofs.Common.{sym, subst}
 use Rattle.report_form.specs.declared.reports.Block.{Block}
 use Rattle.cert_check.specs.Certified.{whole_of}
 use Rattle.cert_check.specs.Truth.{IsTrueBlock}

@@ -1,5 +1,5 @@
 -- There are as many points as corners; the belt, then the sides in order.
-use Rattle.std.proofs.Common.{◌≡◌, List, All, length, ap, refl, sym, subst, ◌∙◌, arith}
+use Rattle.std.proofs.Common.{◌≡◌, List, All, length, ap, refl, ◌∙◌, arith}
 use Rattle.std.proofs.lemmas.List.{length-map}
 use Rattle.corr_game.specs.declared.notions.Notion.{Notion}
 use Rattle.plane_hull.specs.Belt.{IsBelt}

@@ -1,15 +1,14 @@
 -- The rules in their order: the plans, the total, what the pairs pay, then each player's gain.
-use Rattle.std.proofs.Common.{rules, ◌≡◌, All, [], ◌∷◌}
+use Rattle.std.proofs.Common.{rules, ◌≡◌, [], ◌∷◌}
 use Rattle.std.proofs.lemmas.Result.{IfErr-weaker, IfOk-weaker}
 use Rattle.corr_game.specs.declared.notions.Notion.{Notion}
 use Rattle.corr_game.specs.declared.sides.Side.TheVariants.{One, Two}
 use Rattle.equilibrium.specs.Distribution.{entries_of, total}
 use Rattle.equilibrium.specs.Equilibrium.{NoneImproves, no_slack}
-use Rattle.cert_check.specs.CornerRules.{AreReduced, CornerRule, corner_rules}
+use Rattle.cert_check.specs.CornerRules.{CornerRule, corner_rules}
 use Rattle.cert_check.specs.Ends.{IsBreak}
 use Rattle.cert_check.specs.Rules.{IsFirstBroken}
 use Rattle.cert_check.specs.Truth.{IsTrueCorner}
-use Rattle.cert_check.specs.declared.faults.RuleEnd.{RuleEnd}
 use Rattle.cert_check.specs.declared.verdicts.Cause.{Cause}
 use Rattle.cert_check.specs.declared.verdicts.Cause.TheVariants.{Gain, Point, Width}
 use Rattle.cert_check.proofs.CheckedCorners.{corner_true, entries_are, first_gains, pays_first, second_gains}

@@ -36,8 +36,12 @@ returns-clause-one c =
     let bound = rw (returned c.args.total.one (omega (arith, c.requires.room_one)), returned c.walk_pay-paid.result.one (omega arith)) at c.plus_product.ensures.bound in
     let size : unsigned_abs c.plus_product.result < 2 ^ 127 = omega (arith, bound, paid, c.requires.room_one) in
     returned c.plus_product.result size
-    ∙ rw (returned c.args.total.one (omega (arith, c.requires.room_one)), narrow_returned c.args.pair.now.weight c.requires.drawn.1,
-    returned c.walk_pay-paid.result.one (omega arith), c.walk_pay-paid.ensures.first) at c.plus_product.ensures.value
+    ∙ rw (
+      returned c.args.total.one (omega (arith, c.requires.room_one)),
+      narrow_returned c.args.pair.now.weight c.requires.drawn.1,
+      returned c.walk_pay-paid.result.one (omega arith),
+      c.walk_pay-paid.ensures.first,
+    ) at c.plus_product.ensures.value
 
 pub returns-clause-two : goal.returns-clause-two
 returns-clause-two c =
@@ -45,5 +49,9 @@ returns-clause-two c =
     let bound = rw (returned c.args.total.two (omega (arith, c.requires.room_two)), returned c.walk_pay-paid.result.two (omega arith)) at c.plus_product-2.ensures.bound in
     let size : unsigned_abs c.plus_product-2.result < 2 ^ 127 = omega (arith, bound, paid, c.requires.room_two) in
     returned c.plus_product-2.result size
-    ∙ rw (returned c.args.total.two (omega (arith, c.requires.room_two)), narrow_returned c.args.pair.now.weight c.requires.drawn.1,
-    returned c.walk_pay-paid.result.two (omega arith), c.walk_pay-paid.ensures.second) at c.plus_product-2.ensures.value
+    ∙ rw (
+      returned c.args.total.two (omega (arith, c.requires.room_two)),
+      narrow_returned c.args.pair.now.weight c.requires.drawn.1,
+      returned c.walk_pay-paid.result.two (omega arith),
+      c.walk_pay-paid.ensures.second,
+    ) at c.plus_product-2.ensures.value

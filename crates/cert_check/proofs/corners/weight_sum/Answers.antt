@@ -1,5 +1,5 @@
 -- One weight more is added.
-use Rattle.std.proofs.Common.{◌≡◌, ◌+◌, ◌*◌, ◌^◌, ◌≤◌, ◌+ℤ◌, pos, ℤ, unsigned_abs, to_z, of_z, length, arith}
+use Rattle.std.proofs.Common.{◌+◌, ◌*◌, ◌^◌, ◌≤◌, pos, unsigned_abs, to_z, of_z, arith}
 use Rattle.std.specs.Int.{w128}
 use Rattle.corr_num.proofs.MagnitudeBounds.{sum_magnitude}
 use Rattle.equilibrium.specs.Distribution.{total, entries_of}

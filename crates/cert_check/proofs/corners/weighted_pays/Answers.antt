@@ -1,5 +1,5 @@
 -- What one pair more pays is added.
-use Rattle.std.proofs.Common.{◌≡◌, ◌+◌, ◌*◌, ◌^◌, ◌≤◌, ◌*ℤ◌, pos, unsigned_abs, length, arith}
+use Rattle.std.proofs.Common.{◌*ℤ◌, pos, arith}
 use Rattle.corr_game.specs.declared.sides.Side.TheVariants.{One, Two}
 use Rattle.equilibrium.specs.Deviation.{following}
 use Rattle.equilibrium.specs.Distribution.{entries_of, pay}

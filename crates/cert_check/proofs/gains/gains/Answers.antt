@@ -13,12 +13,12 @@ returns-then-eq c =
     let at_start : c.args.at.0 ≡ Nfcce = search rules in
     record {
       exact = where_ok c.gains_by.result _ _
-          (λ gained by entries ranges.
+          (λ gained by.
           let given : AreGiven c.args.game.now c.args.pairs.now c.args.list.now = record {
             rules = c.len.ensures.rules;
             pairs = c.len-2.ensures.rules;
-            entries = entries;
-            ranges = ranges;
+            entries = c.requires.entries;
+            ranges = c.requires.ranges;
           } in
           started c.args.at.1 c.args.game.now (entries_of c.args.list.now) c.args.at.0 gained at_start (by Nfcce Start given tt refl refl))
           c.gains_by.ensures.exact;
@@ -28,12 +28,12 @@ pub returns : goal.returns
 returns c =
     let apart : c.args.at.0 ≡ Nfcce → ⊥ = search rules in
     record {
-      exact = λ entries ranges.
+      exact =
           let given : AreGiven c.args.game.now c.args.pairs.now c.args.list.now = record {
             rules = c.len.ensures.rules;
             pairs = c.len-2.ensures.rules;
-            entries = entries;
-            ranges = ranges;
+            entries = c.requires.entries;
+            ranges = c.requires.ranges;
           } in
           let all : (set : ℕ) → set < length (sets_of c.args.at.1 c.args.game.now) → set < c.loop-set.set = λ set low. search rules in (
             λ e. none_by_sets c.args.at.1 c.args.game.now (entries_of c.args.list.now) c.args.at.0 apart

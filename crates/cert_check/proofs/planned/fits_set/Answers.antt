@@ -1,5 +1,5 @@
 -- The plan leads to a set where it plays the set's own sequence.
-use Rattle.std.proofs.Common.{◌≡◌, ◌<◌, ◌↔◌, IsTrue, true, false, nat_lt, arith}
+use Rattle.std.proofs.Common.{◌<◌, ◌↔◌, IsTrue, true, false, nat_lt, arith}
 use Rattle.std.proofs.lemmas.Bool.Decides.{nat_tests}
 use Rattle.cert_check.proofs.PlannedPlans.{leads_is, none_fits, none_led, some_fits}
 use Rattle.cert_check.proofs.planned.fits_set.Goals as goal

@@ -1,5 +1,5 @@
 -- A column more keeps its rules, or breaks one of them first.
-use Rattle.std.proofs.Common.{rules, arith, below_more, length, pos, ◌≡◌, ℕ, ℤ, List, ◌<◌, slice_index_or, FitsSigned}
+use Rattle.std.proofs.Common.{rules, arith, below_more, pos, List, ◌<◌, slice_index_or, FitsSigned}
 use Rattle.std.specs.Int.{w128}
 use Rattle.std.proofs.lemmas.Int.{to_z-of_z}
 use Rattle.corr_num.proofs.PrintedTerms.{narrow_returned}
@@ -9,7 +9,7 @@ use Rattle.cert_check.specs.declared.verdicts.Cause.{Cause}
 use Rattle.cert_check.specs.Certified.{FailsAt, Passes, whole_of}
 use Rattle.cert_check.specs.Ends.{IsBreak}
 use Rattle.cert_check.specs.Rules.{by_column}
-use Rattle.cert_check.specs.SideRules.{CertificateRule, IsFirstCause, SideRule, sign, width}
+use Rattle.cert_check.specs.SideRules.{IsFirstCause, SideRule, sign, width}
 use Rattle.cert_check.proofs.FirstBroken.{column_breaks, columns_hold}
 use Rattle.cert_check.proofs.RestOfRow.{get_default}
 use Rattle.cert_check.proofs.RuleEnds.{break_for, column_fails, column_holds, error_named}

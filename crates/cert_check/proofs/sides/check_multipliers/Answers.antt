@@ -1,9 +1,8 @@
 -- The rules in their order: one number a row, then the columns, then the first number.
-use Rattle.std.proofs.Common.{rules, Bool, true, false, refl, arith, length, pos, ◌+◌, ◌<◌, ◌≡◌, ℕ, ℤ, ◌≤ℤ◌, ◌<ℤ◌, IsTrue, FitsSigned, get_or, slice_index_or}
+use Rattle.std.proofs.Common.{rules, Bool, true, false, refl, arith, length, pos, ◌<◌, ◌≡◌, ℤ, ◌≤ℤ◌, ◌<ℤ◌, IsTrue, FitsSigned, get_or}
 use lib.Signed.{le_z, lt_z}
 use Rattle.std.specs.Int.{w128}
 use Rattle.std.proofs.lemmas.Int.{ints, to_z-of_z}
-use Rattle.corr_num.specs.Narrow.{Narrow}
 use Rattle.cert_check.specs.declared.verdicts.Cause.TheVariants as cause
 use Rattle.cert_check.specs.Certified.{whole_of}
 use Rattle.cert_check.specs.Ends.{IsBreak}
@@ -78,7 +77,7 @@ returns-in_err-keep-3-clause-broken c =
     (λ most. ends.1 (rw (to_z-of_z w128 c.index-in-loop-col.result.now also_fits, also) (at_most_test (get_or products col (pos 0)) most)))))
 
 pub returns-in_err-keep-4-clause-broken : goal.returns-in_err-keep-4-clause-broken
-returns-in_err-keep-4-clause-broken c = 
+returns-in_err-keep-4-clause-broken c =
     let ends = c.in_err-keep-4.ensures.broken in
     let Broken = IsFirstCause (EmptyRule (whole_of c.args.program.now) c.args.list.now) (empty_rules (whole_of c.args.program.now)) in
     error_named _ _ (IsBreak Broken) c.from_residual-in_err-keep-4.ensures.1

@@ -7,9 +7,9 @@ use Rattle.cert_check.specs.declared.verdicts.Cause.{Cause}
 use Rattle.cert_check.specs.Certified.{whole_of}
 use Rattle.cert_check.specs.Ends.{IsBreak}
 use Rattle.cert_check.specs.Rules.{by_column}
-use Rattle.cert_check.specs.SideRules.{CertificateRule, IsFirstCause, SideRule, side_rules, sign, width}
-use Rattle.cert_check.proofs.CheckedSides.{at_corner, column_first, of_corner, point_first, rows_first, side_true}
-use Rattle.cert_check.proofs.RuleEnds.{break_for, break_of, error_named}
+use Rattle.cert_check.specs.SideRules.{IsFirstCause, SideRule, side_rules, sign, width}
+use Rattle.cert_check.proofs.CheckedSides.{at_corner, column_first, side_true}
+use Rattle.cert_check.proofs.RuleEnds.{break_for, error_named}
 use Rattle.cert_check.proofs.sides.check_side.Goals as goal
 
 pub returns-clause-held : goal.returns-clause-held

@@ -20,12 +20,6 @@ returns c =
     judged c.requires.short c.args.place c.args.report.now c.requires.read
     c.args.ready.now.game c.args.ready.now.pairs (record { game = c.requires.game; fit = sizes })
     c.in_ok-verdict.verdict
-    (record {
-      scales_differ = c.in_ok-verdict.ensures.no_scale;
-      no_scale = c.in_ok-verdict.ensures.scales;
-      certified = c.in_ok-verdict.ensures.certified;
-      whole = c.in_ok-verdict.ensures.whole;
-      partly = c.in_ok-verdict.ensures.partly;
-    })
+    c.in_ok-verdict.ensures.verdict
     (rw c.blocks-3.ensures.blocks at c.in_ok-text.ensures)
     c.status_of.ensures
