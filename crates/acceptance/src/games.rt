@@ -1,11 +1,5 @@
 // Games as the files that a user would write.
 
-/// A game with one leaf.
-pub const ONE: &str = r#"EFG 2 R "One" { "A" "B" }
-""
-t "" 1 "" { 3, 4 }
-"#;
-
 /// Chicken: both dare, or one, or none.
 pub const CHICKEN: &str = r#"EFG 2 R "Chicken" { "Row" "Column" }
 ""
@@ -99,73 +93,4 @@ t "" 3 "" { 3.0, 0 }
 p "" 2 1 "" 0
 t "" 3
 t "" 2
-"#;
-
-/// The least denominator of this game's only payoffs has 84 binary digits.
-pub const DIAGONAL: &str = r#"EFG 2 R "Diagonal" { "A" "B" }
-p "" 1 1 { "1" "2" "3" "4" } 0
-p "" 2 1 { "1" "2" "3" "4" } 0
-t "" 1 { 134217728 -134217728 }
-t "" 0
-t "" 0
-t "" 0
-p "" 2 1 0
-t "" 0
-t "" 2 { 134217727 -134217727 }
-t "" 0
-t "" 0
-p "" 2 1 0
-t "" 0
-t "" 0
-t "" 3 { 134217729 -134217729 }
-t "" 0
-p "" 2 1 0
-t "" 0
-t "" 0
-t "" 0
-t "" 4 { 134217725 -134217725 }
-"#;
-
-/// Two letters are drawn, and each player sees one of them.
-pub const LETTERS: &str = r#"EFG 2 R "Letters" { "A" "B" }
-c "" 1 { "aa" 1/4 "ab" 1/4 "ba" 1/4 "bb" 1/4 } 0
-p "" 1 1 { "x" "y" } 0
-p "" 2 1 { "x" "y" } 0
-t "" 0
-t "" 0
-p "" 2 1 0
-t "" 0
-t "" 0
-p "" 1 1 0
-p "" 2 2 { "x" "y" } 0
-t "" 0
-t "" 0
-p "" 2 2 0
-t "" 0
-t "" 0
-p "" 1 2 { "x" "y" } 0
-p "" 2 1 0
-t "" 0
-t "" 0
-p "" 2 1 0
-t "" 0
-t "" 0
-p "" 1 2 0
-p "" 2 2 0
-t "" 0
-t "" 0
-p "" 2 2 0
-t "" 0
-t "" 0
-"#;
-
-/// The second set of player 1 stands behind both of the player's first moves.
-pub const FORGETFUL: &str = r#"EFG 2 R "Forget" { "A" "B" }
-p "" 1 1 { "L" "R" } 0
-p "" 2 1 { "m" } 0
-p "" 1 2 { "a" } 0
-t "" 0
-p "" 2 1 0
-p "" 1 2 0
-t "" 0
 "#;

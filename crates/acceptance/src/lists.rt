@@ -1,6 +1,6 @@
 // Lists of pairs of plans that were worked out by hand, held against the definition of equilibrium by a plain program.
 use crate::games::{CHICKEN, COIN, DILEMMA, ENTRY, HEADS, ONE_CARD, SUMS};
-use crate::opened::{Opened, open};
+use crate::opened::game_of;
 use corr_game::{Notion, Pair, PairList, Plan};
 use plain_programs::{PayoffPoint, Slack, are_entries, are_weights, is_equilibrium, payoff_point};
 use std::alloc::{AllocError, Global};
@@ -51,7 +51,7 @@ fn expect_by(
     slack: Slack,
     answers: [bool; 3],
 ) -> Result<(), Fail> {
-    let Opened { game, .. } = open(rt, alloc, text)?;
+    let game = game_of(rt, alloc, text)?;
     let list = listed(alloc, entries)?;
     assert!(rt; are_weights(&list));
     assert!(rt; slack.num <= 1 << 20);
@@ -76,7 +76,7 @@ fn expect_point(
     entries: &[(&str, &str, i128)],
     point: (i128, i128, i128),
 ) -> Result<(), Fail> {
-    let Opened { game, .. } = open(rt, alloc, text)?;
+    let game = game_of(rt, alloc, text)?;
     let list = listed(alloc, entries)?;
     assert!(rt; are_weights(&list));
     assert!(rt; are_entries(&game, &list));

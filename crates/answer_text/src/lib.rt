@@ -1,7 +1,7 @@
 //! What `check` and `work` print: the line of a verdict, and the summary of a generated game's polygons.
 //!
-//! It stands on `cert_check` for the verdicts, on `report_form` for the blocks, on `game_gen` for the kinds, and on
-//! `report_text` and `text_pieces` for writing. The two calls are `write_verdict` and `write_summary`; their texts are
+//! It depends on `report_form` for the verdicts and the blocks, on `game_gen` for the kinds, and on `report_text` and
+//! `text_pieces` for writing. The two calls are `write_verdict` and `write_summary`; their texts are
 //! functions in `specs/VerdictText` and `specs/SummaryText`.
 #![tactic(auto)]
 

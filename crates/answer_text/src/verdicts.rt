@@ -6,9 +6,8 @@ ghost use Rattle.report_text.specs.NameText.{notion_name};
 ghost use Rattle.answer_text.specs.VerdictText.{cause_text, item_text, verdict_text, wide_name};
 
 use crate::names::{name_of, player};
-use cert_check::{Cause, Item, Verdict};
 use corr_game::{Notion, Side};
-use report_form::{Block, BlockList, NamedBlock};
+use report_form::{Block, BlockList, Cause, Item, NamedBlock, Verdict};
 use std::alloc::{AllocError as NoMemory, Global};
 use text_pieces::{add_bytes, add_number};
 

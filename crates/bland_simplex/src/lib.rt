@@ -24,6 +24,3 @@ pub use lp_form::NumList;
 pub use plane_hull::Dir;
 pub use shapes::Shape;
 pub use turning::best;
-
-#[cfg(test)]
-mod tests;

@@ -7,7 +7,7 @@ use Rattle.report_form.specs.declared.reports.Block.{Block}
 use Rattle.report_form.specs.declared.reports.Block.TheVariants.{Found, Empty, TooWide}
 use Rattle.report_form.specs.declared.reports.NamedBlock.{NamedBlock}
 use Rattle.report_form.specs.View.{ReportView}
-use Rattle.cert_check.specs.declared.verdicts.Verdict.TheVariants.{Partial, Yes}
+use Rattle.report_form.specs.declared.verdicts.Verdict.TheVariants.{Partial, Yes}
 use Rattle.cert_check.specs.Truth.{IsTooWide, IsTrueReport, IsVerdictOn, partly, whole}
 use Rattle.cert_check.proofs.Elements.{all_at}
 

@@ -27,11 +27,11 @@ use Rattle.cert_check.specs.Rules.{AllHold, by_column}
 use Rattle.cert_check.specs.Scales.{HasScales}
 use Rattle.cert_check.specs.SideRules.{CertificateRule, EmptyRule, IsFirstCause, SideRule, above, empty_rules, side_rules, sign, width}
 use Rattle.cert_check.specs.Truth.{AreBefore, IsBlockFault, IsFaultIn, IsTooWide, IsTrueBlock, IsTrueCorner, IsTrueOf, IsTrueSide, IsVerdictOn, at_belt, at_multipliers, at_side, broken, partly, whole}
-use Rattle.cert_check.specs.declared.verdicts.Cause.{Cause}
-use Rattle.cert_check.specs.declared.verdicts.Cause.TheVariants as causes
-use Rattle.cert_check.specs.declared.verdicts.Item.{Item}
-use Rattle.cert_check.specs.declared.verdicts.Item.TheVariants as item
-use Rattle.cert_check.specs.declared.verdicts.Verdict.TheVariants.{No, Partial, Yes}
+use Rattle.report_form.specs.declared.verdicts.Cause.{Cause}
+use Rattle.report_form.specs.declared.verdicts.Cause.TheVariants as causes
+use Rattle.report_form.specs.declared.verdicts.Item.{Item}
+use Rattle.report_form.specs.declared.verdicts.Item.TheVariants as item
+use Rattle.report_form.specs.declared.verdicts.Verdict.TheVariants.{No, Partial, Yes}
 use Rattle.cert_check.proofs.FirstBroken.{back_holds, front_holds, second_holds}
 
 -- ---- what the rules show

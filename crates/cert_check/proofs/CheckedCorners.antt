@@ -13,11 +13,12 @@ use Rattle.equilibrium.specs.Equilibrium.{NoneImproves, no_slack}
 use Rattle.report_form.specs.Ranges.{IsPair}
 use Rattle.report_form.specs.declared.reports.Corner.{Corner}
 use Rattle.sequences.proofs.Adding.{within}
-use Rattle.cert_check.specs.CornerRules.{AreReduced, CornerRule, corner_rules}
+use Rattle.deviation_gains.specs.Planned.{AreReduced}
+use Rattle.cert_check.specs.CornerRules.{CornerRule, corner_rules}
 use Rattle.cert_check.specs.Rules.{AllHold, IsFirstBroken}
 use Rattle.cert_check.specs.Truth.{IsTrueCorner}
-use Rattle.cert_check.specs.declared.verdicts.Cause.{Cause}
-use Rattle.cert_check.specs.declared.verdicts.Cause.TheVariants.{Gain, Point, Width}
+use Rattle.report_form.specs.declared.verdicts.Cause.{Cause}
+use Rattle.report_form.specs.declared.verdicts.Cause.TheVariants.{Gain, Point, Width}
 use Rattle.cert_check.proofs.Elements.{all_at}
 use Rattle.cert_check.proofs.FirstBroken.{broken_in_front}
 

@@ -16,8 +16,8 @@ use Rattle.sequences.proofs.Adding.{within}
 use Rattle.cert_check.specs.Rules.{AllHold, IsFirstBroken, by_column}
 use Rattle.cert_check.specs.SideRules.{CertificateRule, EmptyRule, IsAtCorner, IsFirstCause, SideRule, above, empty_rules, per_row, point, side_rules, sign, width}
 use Rattle.cert_check.specs.Truth.{IsTrueSide}
-use Rattle.cert_check.specs.declared.verdicts.Cause.{Cause}
-use Rattle.cert_check.specs.declared.verdicts.Cause.TheVariants as cause
+use Rattle.report_form.specs.declared.verdicts.Cause.{Cause}
+use Rattle.report_form.specs.declared.verdicts.Cause.TheVariants as cause
 use Rattle.cert_check.proofs.FirstBroken.{all_behind, broken_behind, broken_in_front, column_breaks, columns_hold}
 
 abbrev pub IsPointOf : GameView → SideRow → Point → Type 0

@@ -9,8 +9,8 @@ use Rattle.corr_num.specs.Narrow.{Narrow}
 use Rattle.lp_form.specs.Program.{LpView, coefficient}
 use Rattle.cert_check.specs.Bounds.{AreSteps}
 use Rattle.cert_check.specs.Products.{product_to}
-use Rattle.cert_check.specs.Reach.{reach}
-use Rattle.cert_check.proofs.Sizes.{product_size, reach_at, reach_zeros}
+use Rattle.deviation_gains.specs.Reach.{reach}
+use Rattle.deviation_gains.proofs.Sizes.{product_size, reach_at, reach_zeros}
 
 pub product_bound : (n first step k : ℕ) (ys : List ℤ) (lp : LpView) → All Narrow ys → first + n ≤ length ys → AreSteps step lp → unsigned_abs (product_to n ys first lp k) ≤ n * step
 product_bound n first step k ys lp narrow long steps =

@@ -4,8 +4,8 @@ use Rattle.corr_game.specs.Game.{GameView}
 use Rattle.lp_form.specs.Program.{LpView}
 use Rattle.report_form.specs.declared.reports.Block.{Block}
 use Rattle.report_form.specs.declared.reports.Block.TheVariants.{Found, Empty, TooWide}
-use Rattle.cert_check.specs.declared.verdicts.Cause.{Cause}
-use Rattle.cert_check.specs.declared.verdicts.Item.{Item}
+use Rattle.report_form.specs.declared.verdicts.Cause.{Cause}
+use Rattle.report_form.specs.declared.verdicts.Item.{Item}
 use Rattle.cert_check.specs.CornerRules.{CornerRule, corner_rules}
 use Rattle.cert_check.specs.SideRules.{EmptyRule, SideRule, empty_rules, side_rules}
 use Rattle.cert_check.specs.Truth.{IsBlockFault, IsTrueBlock, IsTrueCorner, IsTrueSide, at_corner, at_belt, at_side, at_multipliers}

@@ -7,9 +7,9 @@ use Rattle.lp_form.specs.Program.{LpView}
 use Rattle.plane_hull.proofs.OneFault.{one_fault}
 use Rattle.report_form.specs.declared.reports.Block.{Block}
 use Rattle.report_form.specs.Points.{points_of}
-use Rattle.cert_check.specs.declared.verdicts.Cause.{Cause}
-use Rattle.cert_check.specs.declared.verdicts.Item.{Item}
-use Rattle.cert_check.specs.declared.verdicts.Item.TheVariants as item
+use Rattle.report_form.specs.declared.verdicts.Cause.{Cause}
+use Rattle.report_form.specs.declared.verdicts.Item.{Item}
+use Rattle.report_form.specs.declared.verdicts.Item.TheVariants as item
 use Rattle.cert_check.specs.CornerRules.{CornerRule, corner_rules}
 use Rattle.cert_check.specs.Rules.{AllHold, IsFirstBroken}
 use Rattle.cert_check.specs.SideRules.{EmptyRule, SideRule, cause_of, empty_rules, side_rules}

@@ -18,10 +18,10 @@ use Rattle.report_form.specs.declared.reports.Block.{Block}
 use Rattle.report_form.specs.declared.reports.Corner.{Corner}
 use Rattle.report_form.specs.declared.reports.NamedBlock.{NamedBlock}
 use Rattle.report_form.specs.View.{ReportView}
-use Rattle.cert_check.specs.declared.verdicts.Cause.{Cause}
-use Rattle.cert_check.specs.declared.verdicts.Item.{Item}
-use Rattle.cert_check.specs.declared.verdicts.Verdict.{Verdict}
-use Rattle.cert_check.specs.declared.verdicts.Verdict.TheVariants.{No}
+use Rattle.report_form.specs.declared.verdicts.Cause.{Cause}
+use Rattle.report_form.specs.declared.verdicts.Item.{Item}
+use Rattle.report_form.specs.declared.verdicts.Verdict.{Verdict}
+use Rattle.report_form.specs.declared.verdicts.Verdict.TheVariants.{No}
 use Rattle.cert_check.specs.Rules.{AllHold, IsFirstBroken, by_column}
 use Rattle.cert_check.specs.SideRules.{CertificateRule, EmptyRule, SideRule, above, empty_rules, per_row, point, side_rules, sign, width}
 use Rattle.cert_check.specs.Truth.{AreBefore, IsBlockFault, IsTrueOf, IsTrueReport, IsVerdictOn}

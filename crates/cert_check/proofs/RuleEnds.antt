@@ -14,8 +14,8 @@ use Rattle.cert_check.specs.declared.faults.RuleEnd.{RuleEnd}
 use Rattle.cert_check.specs.declared.faults.RuleEnd.TheVariants.{Broken, NoMemory}
 use Rattle.cert_check.specs.declared.faults.BlockEnd.{BlockEnd}
 use Rattle.cert_check.specs.declared.faults.BlockEnd.TheVariants as block
-use Rattle.cert_check.specs.declared.verdicts.Cause.{Cause}
-use Rattle.cert_check.specs.declared.verdicts.Item.{Item}
+use Rattle.report_form.specs.declared.verdicts.Cause.{Cause}
+use Rattle.report_form.specs.declared.verdicts.Item.{Item}
 
 pub error_named : {A E : Type 0} (r : Result A E) (x : E) (P : E → Type 0) → IsErrAnd r (λ e. e ≡ x) → P x → IfErr r P
 error_named (Ok a) x P is h = absurd is

@@ -14,10 +14,10 @@ use Rattle.report_form.specs.declared.reports.Block.{Block}
 use Rattle.report_form.specs.declared.reports.Block.TheVariants.{Found, Empty, TooWide}
 use Rattle.report_form.specs.declared.reports.NamedBlock.{NamedBlock}
 use Rattle.cert_check.specs.declared.programs.Program.{Program}
-use Rattle.cert_check.specs.declared.verdicts.Cause.{Cause}
-use Rattle.cert_check.specs.declared.verdicts.Cause.TheVariants.{Sign, Width}
-use Rattle.cert_check.specs.declared.verdicts.Verdict.{Verdict}
-use Rattle.cert_check.specs.declared.verdicts.Verdict.TheVariants.{Yes, Partial}
+use Rattle.report_form.specs.declared.verdicts.Cause.{Cause}
+use Rattle.report_form.specs.declared.verdicts.Cause.TheVariants.{Sign, Width}
+use Rattle.report_form.specs.declared.verdicts.Verdict.{Verdict}
+use Rattle.report_form.specs.declared.verdicts.Verdict.TheVariants.{Yes, Partial}
 
 -- both parts as one program
 abbrev pub whole_of : Program → LpView

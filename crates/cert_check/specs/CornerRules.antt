@@ -2,7 +2,6 @@
 -- leaving the mediator (von Stengel and Forges 2008; Farina, Bianchi and Sandholm 2020).
 use Rattle.std.specs.Prelude.{◌≡◌, List, [], ◌∷◌, All, ℤ}
 use Rattle.corr_game.specs.declared.notions.Notion.{Notion}
-use Rattle.corr_game.specs.declared.plans.Pair.{Pair}
 use Rattle.corr_game.specs.declared.sides.Side.{Side}
 use Rattle.corr_game.specs.declared.sides.Side.TheVariants.{One, Two}
 use Rattle.corr_game.specs.Game.{GameView}
@@ -10,15 +9,11 @@ use Rattle.corr_num.specs.Narrow.{Narrow}
 use Rattle.equilibrium.specs.Deviation.{following}
 use Rattle.equilibrium.specs.Distribution.{entries_of, total}
 use Rattle.equilibrium.specs.Equilibrium.{NoneImproves, no_slack}
-use Rattle.equilibrium.specs.ReducedPlan.{IsReduced}
+use Rattle.deviation_gains.specs.Planned.{AreReduced}
 use Rattle.report_form.specs.Certified.{IsPointIn}
 use Rattle.report_form.specs.declared.reports.Corner.{Corner}
-use Rattle.cert_check.specs.declared.verdicts.Cause.{Cause}
-use Rattle.cert_check.specs.declared.verdicts.Cause.TheVariants.{Plan, Total, Width, Point, Gain}
-
--- a reduced plan of each player
-abbrev pub AreReduced : GameView → Pair → Type 0
-AreReduced g pair = IsReduced One g pair.one × IsReduced Two g pair.two
+use Rattle.report_form.specs.declared.verdicts.Cause.{Cause}
+use Rattle.report_form.specs.declared.verdicts.Cause.TheVariants.{Plan, Total, Width, Point, Gain}
 
 -- what a player gets from the corner's pairs, by weight
 abbrev pub sum_of : Side → GameView → Corner → ℤ

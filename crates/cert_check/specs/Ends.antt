@@ -3,8 +3,8 @@ use Rattle.cert_check.specs.declared.faults.BlockEnd.{BlockEnd}
 use Rattle.cert_check.specs.declared.faults.BlockEnd.TheVariants as block
 use Rattle.cert_check.specs.declared.faults.RuleEnd.{RuleEnd}
 use Rattle.cert_check.specs.declared.faults.RuleEnd.TheVariants as rule
-use Rattle.cert_check.specs.declared.verdicts.Cause.{Cause}
-use Rattle.cert_check.specs.declared.verdicts.Item.{Item}
+use Rattle.report_form.specs.declared.verdicts.Cause.{Cause}
+use Rattle.report_form.specs.declared.verdicts.Item.{Item}
 
 -- a broken rule's cause is so
 abbrev pub IsBreak : (Cause → Type 0) → RuleEnd → Type 0

@@ -3,13 +3,8 @@ pub mod Certified
 pub mod CornerRules
 pub mod Ends
 pub mod Fits
-pub mod Gains
-pub mod Leaving
-pub mod Planned
 pub mod Products
-pub mod Reach
 pub mod Rules
 pub mod Scales
 pub mod SideRules
-pub mod Triggers
 pub mod Truth

@@ -9,8 +9,8 @@ use Rattle.lp_form.specs.Program.{LpView}
 use Rattle.plane_hull.specs.declared.sides.SideRow.{SideRow}
 use Rattle.report_form.specs.Certified.{IsPointIn}
 use Rattle.report_form.specs.declared.reports.Corner.{Corner}
-use Rattle.cert_check.specs.declared.verdicts.Cause.{Cause}
-use Rattle.cert_check.specs.declared.verdicts.Cause.TheVariants as cause
+use Rattle.report_form.specs.declared.verdicts.Cause.{Cause}
+use Rattle.report_form.specs.declared.verdicts.Cause.TheVariants as cause
 use Rattle.cert_check.specs.Rules.{IsFirstBroken, by_column}
 
 -- a rule on how many multipliers there are, on a side's point, on a column's width or its sign, or on the first multiplier

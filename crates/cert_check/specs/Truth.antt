@@ -16,12 +16,12 @@ use Rattle.report_form.specs.declared.reports.NamedBlock.{NamedBlock}
 use Rattle.report_form.specs.Points.{points_of}
 use Rattle.report_form.specs.Ranges.{IsReport}
 use Rattle.report_form.specs.View.{ReportView}
-use Rattle.cert_check.specs.declared.verdicts.Cause.{Cause}
-use Rattle.cert_check.specs.declared.verdicts.Cause.TheVariants.{Belt}
-use Rattle.cert_check.specs.declared.verdicts.Item.{Item}
-use Rattle.cert_check.specs.declared.verdicts.Item.TheVariants as item
-use Rattle.cert_check.specs.declared.verdicts.Verdict.{Verdict}
-use Rattle.cert_check.specs.declared.verdicts.Verdict.TheVariants.{Yes, Partial, NoScale, No}
+use Rattle.report_form.specs.declared.verdicts.Cause.{Cause}
+use Rattle.report_form.specs.declared.verdicts.Cause.TheVariants.{Belt}
+use Rattle.report_form.specs.declared.verdicts.Item.{Item}
+use Rattle.report_form.specs.declared.verdicts.Item.TheVariants as item
+use Rattle.report_form.specs.declared.verdicts.Verdict.{Verdict}
+use Rattle.report_form.specs.declared.verdicts.Verdict.TheVariants.{Yes, Partial, NoScale, No}
 use Rattle.cert_check.specs.CornerRules.{CornerRule, corner_rules}
 use Rattle.cert_check.specs.Rules.{AllHold, IsFirstBroken}
 use Rattle.cert_check.specs.Scales.{HasScales}

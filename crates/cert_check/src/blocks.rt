@@ -1,7 +1,7 @@
 ghost use Rattle.std.specs.Prelude.{◌≡◌, ◌↔◌, IsTrue, ℕ, ◌<◌, ◌≤◌, All, IfErr, IfOk, List, Ok, false, length, true};
-ghost use Rattle.cert_check.specs.declared.verdicts.Verdict.TheVariants.{NoScale, Partial, Yes};
-ghost use Rattle.cert_check.specs.declared.verdicts.Cause.TheVariants as causes;
-ghost use Rattle.cert_check.specs.declared.verdicts.Item.TheVariants.{Belt};
+ghost use Rattle.report_form.specs.declared.verdicts.Verdict.TheVariants.{NoScale, Partial, Yes};
+ghost use Rattle.report_form.specs.declared.verdicts.Cause.TheVariants as causes;
+ghost use Rattle.report_form.specs.declared.verdicts.Item.TheVariants.{Belt};
 ghost use Rattle.cert_check.specs.Bounds.{IsBounded};
 ghost use Rattle.cert_check.specs.Certified.{AreCertifiedBlocks, IsAccepted, NoneTooWide, whole_of};
 ghost use Rattle.cert_check.specs.Ends.{IsFaultWith};
@@ -27,12 +27,11 @@ use crate::corners::check_corner;
 use crate::faults::{BlockEnd, Fault, at_item};
 use crate::programs::{Program, program_of};
 use crate::sides::{check_multipliers, check_side};
-use crate::verdicts::{Cause, Item, Verdict};
 use connected_pairs::Pairs;
 use corr_game::{Game, Notion, Side};
 use lp_form::NumList;
 use plane_hull::{Point, SideList, belt};
-use report_form::{Block, BlockList, Corners, NamedBlock, Report};
+use report_form::{Block, BlockList, Cause, Corners, Item, NamedBlock, Report, Verdict};
 use std::alloc::{AllocError as NoMemory, Global};
 
 /// What a report on a game without a triangle is worth: the first rule that it breaks, in the order of its parts.

@@ -11,21 +11,18 @@ ghost use Rattle.connected_pairs.specs.Connected.{IsPairsOf};
 ghost use Rattle.report_form.specs.Ranges.{IsCorner, IsPair, IsPositive};
 ghost use Rattle.cert_check.specs.CornerRules.{CornerRule, corner_rules};
 ghost use Rattle.cert_check.specs.Ends.{IsBreak};
-ghost use Rattle.cert_check.specs.Planned.{AreDrawn, IsDrawn};
+ghost use Rattle.deviation_gains.specs.Planned.{AreDrawn, IsDrawn};
 ghost use Rattle.cert_check.specs.Rules.{AllHold, IsFirstBroken};
 ghost use Rattle.cert_check.specs.Truth.{IsTrueCorner};
-ghost use Rattle.cert_check.specs.declared.verdicts.Cause.TheVariants.{Gain, Point, Width};
+ghost use Rattle.report_form.specs.declared.verdicts.Cause.TheVariants.{Gain, Point, Width};
 
 use crate::faults::RuleEnd;
-use crate::gains::gains;
-use crate::planned::all_planned;
 use crate::sides::{both_narrow, is_share, keep};
-use crate::sums::plus_product;
-use crate::verdicts::Cause;
 use connected_pairs::Pairs;
 use corr_game::{Game, Notion, Pair, PairList, Pays, Side, walk_pay};
 use corr_num::sum;
-use report_form::Corner;
+use deviation_gains::{all_planned, gains, plus_product};
+use report_form::{Cause, Corner};
 use std::alloc::Global;
 
 /// The rules of a corner: its plans, its total, its point, and that no player gains.

@@ -1,7 +1,7 @@
 ghost use Rattle.std.specs.Prelude.{◌≡◌};
 ghost use Rattle.cert_check.specs.Ends.{placed};
 
-use crate::verdicts::{Cause, Item};
+use report_form::{Cause, Item};
 use std::alloc::{AllocError, AllocFailed};
 
 /// The first rule that a block breaks, and where.

@@ -1,24 +1,18 @@
 //! A report held against its game, apart from the solver that may have written it.
 //!
 //! `check` goes over the scales and the blocks of a report in order: a corner's pairs of plans, whether a player gains by
-//! leaving the mediator, the belt of sides, each side's multipliers against the program of the notion. It stands on
-//! `incentive_rows` and `plan_polytope` for that program and on `plane_hull` for the belt. The layer above uses `check`
-//! and its `Verdict`: sides and empty blocks of an accepted report are certified, and it is `Yes` only where no block is too
-//! wide.
+//! leaving the mediator, the belt of sides, each side's multipliers against the program of the notion. It depends on
+//! `deviation_gains` for plans and gains, on `incentive_rows` and `plan_polytope` for that program, on `plane_hull` for
+//! the belt. The layer above uses `check`, whose verdict is the one that the report gets.
 #![tactic(auto)]
 
 mod blocks;
 mod corners;
-mod deviations;
 mod faults;
-mod gains;
 mod laws;
 mod multipliers;
-mod planned;
 mod programs;
 mod sides;
-mod sums;
-mod verdicts;
 
 pub use blocks::{check, some_too_wide};
 pub use laws::{
@@ -26,4 +20,3 @@ pub use laws::{
     true_blocks_have_no_fault, true_multipliers_show_empty, true_reports_are_accepted,
     true_sides_are_certified,
 };
-pub use verdicts::{Cause, Item, Verdict};

@@ -8,7 +8,7 @@ ghost use Rattle.cert_check.specs.Certified.{whole_of};
 ghost use Rattle.cert_check.specs.Products.{product_to};
 
 use crate::programs::Program;
-use crate::sums::plus_product;
+use deviation_gains::plus_product;
 use lp_form::{Entry, Lp, NumList};
 use std::alloc::{AllocError as NoMemory, Global};
 

@@ -19,11 +19,11 @@ ghost use Rattle.cert_check.specs.declared.faults.RuleEnd.TheVariants.{Broken};
 use crate::faults::RuleEnd;
 use crate::multipliers::{add_row, column_products};
 use crate::programs::Program;
-use crate::verdicts::Cause;
 use corr_game::{Game, Side};
 use corr_num::{Frac, narrow, product, sum};
 use lp_form::NumList;
 use plane_hull::{Dir, Point, SideRow};
+use report_form::Cause;
 use std::alloc::{AllocError as NoMemory, Global};
 
 /// Goes on where a rule holds.

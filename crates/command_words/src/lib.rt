@@ -13,6 +13,3 @@ mod words;
 
 pub use commands::{Command, Notions};
 pub use words::read_words;
-
-#[cfg(test)]
-mod tests;

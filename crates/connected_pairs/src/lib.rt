@@ -12,6 +12,3 @@ mod table;
 
 pub use laws::{a_game_has_one_table_of_pairs, relevance_goes_back};
 pub use pairs::Pairs;
-
-#[cfg(test)]
-mod tests;

@@ -21,6 +21,3 @@ pub use integers::{difference, product, quotient, sum};
 pub use magnitudes::narrow;
 pub use pivots::pivot_entry;
 pub use products::{cmp_products, dot};
-
-#[cfg(test)]
-mod tests;

@@ -20,6 +20,3 @@ pub use put_whole::put_all;
 pub use sink::{PutEnd, Sink};
 pub use source::{Failed, Source};
 pub use std_port::{StdSink, StdSource};
-
-#[cfg(test)]
-mod tests;

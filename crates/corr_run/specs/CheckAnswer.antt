@@ -1,8 +1,8 @@
 -- What `check` answers: a text and a status, one constructor for each case.
 use Rattle.std.specs.Prelude.{◌≡◌, ℕ, ◌^◌, ◌<◌, ◌≤◌, List, drop, length}
 use Rattle.answer_text.specs.VerdictText.{verdict_text}
-use Rattle.cert_check.specs.declared.verdicts.Verdict.{Verdict}
-use Rattle.cert_check.specs.declared.verdicts.Verdict.TheVariants as verdict
+use Rattle.report_form.specs.declared.verdicts.Verdict.{Verdict}
+use Rattle.report_form.specs.declared.verdicts.Verdict.TheVariants as verdict
 use Rattle.cert_check.specs.Truth.{IsVerdictOn}
 use Rattle.connected_pairs.specs.Connected.{PairsView}
 use Rattle.corr_game.specs.Game.{GameView}

@@ -12,8 +12,8 @@ use crate::answer::{Answer, refused};
 use crate::prepare::{Ready, ReadyEnd, prepare};
 use crate::solving::size_refusal;
 use answer_text::write_verdict;
-use cert_check::{Verdict, check};
-use report_form::{BlockList, Refusal, Report};
+use cert_check::check;
+use report_form::{BlockList, Refusal, Report, Verdict};
 use report_reader::{ReportRefusal, read_report};
 use std::alloc::{AllocError, Global};
 

@@ -23,6 +23,3 @@ pub use lines::read_lines;
 pub use node_line::{ActLine, ActLines, LineKind, NodeLine, PayWords};
 pub use raw_file::RawFile;
 pub use refusal::FileRefusal;
-
-#[cfg(test)]
-mod tests;

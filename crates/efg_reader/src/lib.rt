@@ -23,6 +23,3 @@ mod tree;
 pub use builder::build;
 pub use laws::each_node_has_one_parent;
 pub use raw_game::{FracList, RawGame, RawNode, RawParts, Shape};
-
-#[cfg(test)]
-mod tests;

@@ -12,6 +12,3 @@ mod tokens;
 
 pub use token::{Spot, Token, TokenFault};
 pub use tokens::Tokens;
-
-#[cfg(test)]
-mod tests;

@@ -16,6 +16,3 @@
 //! Contracts may cite `specs/`: `Sums` (`sum_to`, `sum_over`, `dot`) and `Runs` (`Leads`). The files of `proofs/` whose names
 //! end in `Samples` or `Sample` show uses, and no layer above cites them.
 #![tactic(auto)]
-
-#[cfg(test)]
-mod endings;

@@ -12,6 +12,3 @@ mod outcomes;
 
 pub use games::generate;
 pub use kinds::{GenRefusal, Kind, kind_text};
-
-#[cfg(test)]
-mod tests;

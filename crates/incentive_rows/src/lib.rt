@@ -15,6 +15,3 @@ mod triggers;
 
 pub use rows::incentives;
 pub use sizes::program_size;
-
-#[cfg(test)]
-mod tests;

@@ -21,6 +21,3 @@ pub use laws::{
 pub use lp_form::{NumList, Place, RowName};
 pub use starts::starts_narrow;
 pub use tableaus::Tableau;
-
-#[cfg(test)]
-mod tests;

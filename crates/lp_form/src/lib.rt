@@ -18,6 +18,3 @@ pub use laws::{certified_directions_are_bounded, shown_programs_are_empty};
 pub use numbers::NumList;
 pub use places::{Place, RowName};
 pub use programs::Lp;
-
-#[cfg(test)]
-mod tests;

@@ -15,6 +15,3 @@ pub use chances::{common_denominator, has_negative, sums_to_one};
 pub use number::Number;
 pub use values::{number_value, whole_value};
 pub use words::{is_number, is_whole};
-
-#[cfg(test)]
-mod tests;

@@ -8,6 +8,3 @@ mod amounts;
 mod one_node;
 
 pub use one_node::first_form;
-
-#[cfg(test)]
-mod tests;

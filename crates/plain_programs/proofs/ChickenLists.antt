@@ -19,8 +19,7 @@ use Rattle.equilibrium.specs.Equilibrium.{IsEquilibriumList, no_slack}
 use Rattle.equilibrium.specs.FullChoice.{IsFullChoice}
 use Rattle.equilibrium.specs.Reach.{comes_to}
 use Rattle.equilibrium.proofs.Nesting.{no_more}
-use Rattle.plain_programs.specs.Samples.{one_chickens_out}
-use Rattle.sample_games.specs.Games.{chicken_game}
+use Rattle.plain_programs.specs.Samples.{chicken_game, one_chickens_out}
 
 abbrev first_set : SetId
 first_set = record { 0 = 0 }

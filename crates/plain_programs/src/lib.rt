@@ -32,10 +32,3 @@ pub use points::{PayoffPoint, payoff_point};
 pub use samples::a_list_of_chicken_that_is_none;
 pub use solutions::is_solution;
 pub use sums::are_weights;
-
-#[cfg(test)]
-mod polygons;
-#[cfg(test)]
-mod shown;
-#[cfg(test)]
-mod spreads;

@@ -19,6 +19,3 @@ pub use chances::has_public_chance;
 pub use connections::{are_connected, are_relevant, is_above};
 pub use own_moves::{has_recall, own_sequence};
 pub use triangles::least_triangle;
-
-#[cfg(test)]
-mod tests;

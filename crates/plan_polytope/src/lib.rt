@@ -13,6 +13,3 @@ mod rows;
 
 pub use laws::notions_have_one_program;
 pub use polytopes::polytope;
-
-#[cfg(test)]
-mod tests;

@@ -20,6 +20,3 @@ pub use laws::{
     faults_have_one_number, points_inside_are_mixtures,
 };
 pub use sides::{Point, SideList, SideRow};
-
-#[cfg(test)]
-mod tests;

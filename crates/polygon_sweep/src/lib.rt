@@ -16,6 +16,3 @@ mod sweeps;
 pub use corners::{CornerList, Swept, SweptCorner};
 pub use laws::what_goes_round_is_a_belt;
 pub use sweeps::sweep;
-
-#[cfg(test)]
-mod tests;

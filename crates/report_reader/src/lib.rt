@@ -22,6 +22,3 @@ mod words;
 pub use laws::{one_place_of_syntax, pieces_of_bytes, reports_end_within};
 pub use refusals::ReportRefusal;
 pub use reports::read_report;
-
-#[cfg(test)]
-mod tests;

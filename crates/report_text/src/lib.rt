@@ -17,6 +17,3 @@ pub use laws::names_tell_apart;
 pub use parts::{add_frac, add_multipliers, add_pair, add_place, add_side};
 pub use refusals::write_refusal;
 pub use reports::write_report;
-
-#[cfg(test)]
-mod tests;

@@ -13,6 +13,3 @@ mod seqs;
 
 pub use laws::a_game_has_one_numbering;
 pub use seqs::Seqs;
-
-#[cfg(test)]
-mod tests;

@@ -10,7 +10,7 @@ use Rattle.plan_decompose.proofs.ListSums.{rows_met, total_summed}
 use Rattle.plan_decompose.specs.Entry.{AreSums, IsEntry}
 use Rattle.equilibrium.specs.Distribution.{IsEntry as IsWeighted, entry_of}
 use Rattle.cert_check.proofs.Elements.{all_at}
-use Rattle.cert_check.specs.Planned.{AreDrawn, IsDrawn, IsPlanned}
+use Rattle.deviation_gains.specs.Planned.{AreDrawn, IsDrawn, IsPlanned}
 use Rattle.notion_solve.specs.Spread.{AreSpread, IsSpread}
 use Rattle.plane_hull.specs.declared.sides.SideRow.{SideRow}
 use Rattle.report_form.specs.declared.reports.Block.TheVariants.{Found}

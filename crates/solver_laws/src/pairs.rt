@@ -7,7 +7,7 @@ ghost use Rattle.sequences.specs.Number.{SeqsView};
 ghost use Rattle.connected_pairs.specs.Connected.{IsPairs, IsPairsOf, PairsView};
 ghost use Rattle.plan_decompose.specs.Entry.{AreSums, IsEntry};
 ghost use Rattle.equilibrium.specs.Distribution.{IsEntry as IsWeighted, entry_of};
-ghost use Rattle.cert_check.specs.Planned.{AreDrawn, IsDrawn, IsPlanned};
+ghost use Rattle.deviation_gains.specs.Planned.{AreDrawn, IsDrawn, IsPlanned};
 ghost use Rattle.notion_solve.specs.Spread.{AreSpread, IsSpread};
 ghost use Rattle.report_form.specs.declared.reports.Block.TheVariants.{Found};
 ghost use Rattle.report_form.specs.declared.reports.Corner.{Corner};

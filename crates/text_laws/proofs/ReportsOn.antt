@@ -8,8 +8,8 @@ use Rattle.report_form.specs.declared.reports.NamedBlock.{NamedBlock}
 use Rattle.report_form.specs.View.{ReportView}
 use Rattle.command_words.specs.declared.commands.Notions.{Notions}
 use Rattle.command_words.specs.Selection.{selected}
-use Rattle.corr_run.proofs.OnePairs.{one_recalled}
-use Rattle.corr_run.proofs.OneRefusal.{fitting_alone}
+use Rattle.run_laws.proofs.OnePairs.{one_recalled}
+use Rattle.run_laws.proofs.OneRefusal.{fitting_alone}
 use Rattle.corr_run.specs.FirstRefusal.{IsFirstRefusal}
 use Rattle.corr_run.specs.SolvedReport.{IsReportOn}
 

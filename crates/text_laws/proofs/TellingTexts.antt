@@ -2,8 +2,8 @@
 use Rattle.std.proofs.Common.{◌≡◌, ℕ, nat_eq, cond, Bool, true, false, List, get_or, refl, sym, ap, ◌∙◌, arith}
 use Rattle.answer_text.specs.SummaryText.{head_text, summary_text}
 use Rattle.answer_text.specs.VerdictText.{verdict_text}
-use Rattle.cert_check.specs.declared.verdicts.Verdict.{Verdict}
-use Rattle.cert_check.specs.declared.verdicts.Verdict.TheVariants.{Yes, Partial, NoScale, No}
+use Rattle.report_form.specs.declared.verdicts.Verdict.{Verdict}
+use Rattle.report_form.specs.declared.verdicts.Verdict.TheVariants.{Yes, Partial, NoScale, No}
 use Rattle.cert_check.specs.Certified.{is_too_wide}
 use Rattle.corr_game.specs.declared.notions.Notion.{Notion}
 use Rattle.corr_game.specs.declared.notions.Notion.TheVariants.{Efce, Efcce, Nfcce}

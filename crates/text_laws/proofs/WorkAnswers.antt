@@ -9,7 +9,7 @@ use Rattle.report_form.specs.declared.refusals.Refusal.TheVariants.{TooLarge}
 use Rattle.report_text.specs.RefusalText.{refusal_text}
 use Rattle.command_words.specs.declared.commands.Notions.{Notions}
 use Rattle.command_words.specs.Selection.{selected}
-use Rattle.corr_run.proofs.OneRefusal.{first_once, fitting_alone}
+use Rattle.run_laws.proofs.OneRefusal.{first_once, fitting_alone}
 use Rattle.corr_run.specs.declared.status.Status.{Status}
 use Rattle.corr_run.specs.declared.status.Status.TheVariants.{Refused}
 use Rattle.corr_run.specs.FirstRefusal.{IsFirstRefusal}

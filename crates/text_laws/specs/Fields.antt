@@ -1,11 +1,11 @@
 -- What the fields of a refusal and of a verdict hold: numbers below 2^64, and at the belt the one cause that there is.
 use Rattle.std.specs.Prelude.{◌≡◌, ℕ, ◌^◌, ◌<◌}
-use Rattle.cert_check.specs.declared.verdicts.Cause.{Cause}
-use Rattle.cert_check.specs.declared.verdicts.Cause.TheVariants as cause
-use Rattle.cert_check.specs.declared.verdicts.Item.{Item}
-use Rattle.cert_check.specs.declared.verdicts.Item.TheVariants as item
-use Rattle.cert_check.specs.declared.verdicts.Verdict.{Verdict}
-use Rattle.cert_check.specs.declared.verdicts.Verdict.TheVariants.{Yes, Partial, NoScale, No}
+use Rattle.report_form.specs.declared.verdicts.Cause.{Cause}
+use Rattle.report_form.specs.declared.verdicts.Cause.TheVariants as cause
+use Rattle.report_form.specs.declared.verdicts.Item.{Item}
+use Rattle.report_form.specs.declared.verdicts.Item.TheVariants as item
+use Rattle.report_form.specs.declared.verdicts.Verdict.{Verdict}
+use Rattle.report_form.specs.declared.verdicts.Verdict.TheVariants.{Yes, Partial, NoScale, No}
 use Rattle.report_form.specs.declared.refusals.Refusal.{Refusal}
 use Rattle.report_form.specs.declared.refusals.Refusal.TheVariants.{InputTooLong, Report, Syntax, Players, AtNode, ScaleTooLarge}
 use Rattle.report_form.specs.declared.refusals.Refusal.TheVariants.{Forgets, Triangle, Size, TooLarge}

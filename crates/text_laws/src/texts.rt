@@ -3,8 +3,8 @@ ghost use Rattle.std.specs.Prelude.{◌≡◌, ◌↔◌, ℕ, ◌+◌, ◌<◌,
 ghost use Rattle.std.specs.List.{filter};
 ghost use Rattle.answer_text.specs.SummaryText.{node_count, polygon_summary, summary_text};
 ghost use Rattle.answer_text.specs.VerdictText.{cause_text, verdict_text, wide_name};
-ghost use Rattle.cert_check.specs.declared.verdicts.Cause.{Cause};
-ghost use Rattle.cert_check.specs.declared.verdicts.Verdict.{Verdict};
+ghost use Rattle.report_form.specs.declared.verdicts.Cause.{Cause};
+ghost use Rattle.report_form.specs.declared.verdicts.Verdict.{Verdict};
 ghost use Rattle.cert_check.specs.Certified.{NoneTooWide, is_too_wide};
 ghost use Rattle.corr_run.specs.CheckAnswer.{verdict_status};
 ghost use Rattle.game_gen.specs.declared.kinds.Kind.{Kind};

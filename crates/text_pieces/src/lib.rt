@@ -30,6 +30,3 @@ pub fn add_number<I: Integer>(out: &mut Vec<u8>, number: &I) -> Result<(), Alloc
     let mut buffer = Buffer::new();
     out.extend_from_slice(buffer.format(*number).as_bytes())
 }
-
-#[cfg(test)]
-mod tests;

@@ -7,6 +7,3 @@
 mod recalls;
 
 pub use recalls::{RecallRefusal, Recalled, recall};
-
-#[cfg(test)]
-mod tests;

@@ -15,6 +15,3 @@ pub use laws::{
     triangles_are_those_of_the_tree, without_chance_it_is_public,
 };
 pub use triangles::{Quad, triangle};
-
-#[cfg(test)]
-mod tests;

@@ -6,9 +6,9 @@ use Rattle.report_form.specs.declared.reports.Block.TheVariants.{Found}
 use Rattle.cert_check.specs.CornerRules.{CornerRule, corner_rules}
 use Rattle.cert_check.specs.Rules.{IsFirstBroken}
 use Rattle.cert_check.specs.Truth.{IsBlockFault, IsTrueCorner, at_corner}
-use Rattle.cert_check.specs.declared.verdicts.Cause.{Cause}
-use Rattle.cert_check.specs.declared.verdicts.Item.{Item}
-use Rattle.cert_check.specs.declared.verdicts.Item.TheVariants as item
+use Rattle.report_form.specs.declared.verdicts.Cause.{Cause}
+use Rattle.report_form.specs.declared.verdicts.Item.{Item}
+use Rattle.report_form.specs.declared.verdicts.Item.TheVariants as item
 use Rattle.cert_check.proofs.CheckedBlocks.{all_before, one_before}
 use Rattle.cert_check.proofs.RuleEnds.{break_for, fault_at}
 use Rattle.cert_check.proofs.blocks.check_corners.Goals as goal

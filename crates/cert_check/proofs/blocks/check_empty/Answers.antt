@@ -5,9 +5,9 @@ use Rattle.report_form.specs.declared.reports.Block.TheVariants.{Empty}
 use Rattle.cert_check.specs.Certified.{whole_of}
 use Rattle.cert_check.specs.SideRules.{EmptyRule, IsFirstCause, empty_rules}
 use Rattle.cert_check.specs.Truth.{IsBlockFault}
-use Rattle.cert_check.specs.declared.verdicts.Cause.{Cause}
-use Rattle.cert_check.specs.declared.verdicts.Item.{Item}
-use Rattle.cert_check.specs.declared.verdicts.Item.TheVariants as item
+use Rattle.report_form.specs.declared.verdicts.Cause.{Cause}
+use Rattle.report_form.specs.declared.verdicts.Item.{Item}
+use Rattle.report_form.specs.declared.verdicts.Item.TheVariants as item
 use Rattle.cert_check.proofs.CheckedBlocks.{empty_fault}
 use Rattle.cert_check.proofs.RuleEnds.{break_for, fault_at}
 use Rattle.cert_check.proofs.blocks.check_empty.Goals as goal

@@ -13,10 +13,10 @@ use Rattle.cert_check.specs.Certified.{whole_of}
 use Rattle.cert_check.specs.Ends.{IsFaultWith}
 use Rattle.cert_check.specs.SideRules.{IsFirstCause, SideRule, side_rules}
 use Rattle.cert_check.specs.Truth.{IsBlockFault, IsTrueCorner, IsTrueSide}
-use Rattle.cert_check.specs.declared.verdicts.Cause.{Cause}
-use Rattle.cert_check.specs.declared.verdicts.Cause.TheVariants as causes
-use Rattle.cert_check.specs.declared.verdicts.Item.{Item}
-use Rattle.cert_check.specs.declared.verdicts.Item.TheVariants as item
+use Rattle.report_form.specs.declared.verdicts.Cause.{Cause}
+use Rattle.report_form.specs.declared.verdicts.Cause.TheVariants as causes
+use Rattle.report_form.specs.declared.verdicts.Item.{Item}
+use Rattle.report_form.specs.declared.verdicts.Item.TheVariants as item
 use Rattle.cert_check.proofs.CheckedBlocks.{all_before, belt_fault, one_before, side_fault}
 use Rattle.cert_check.proofs.Elements.{all_at}
 use Rattle.cert_check.proofs.RuleEnds.{break_for, error_named, fault_at, fault_for}

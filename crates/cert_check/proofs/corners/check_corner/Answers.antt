@@ -9,8 +9,8 @@ use Rattle.cert_check.specs.CornerRules.{CornerRule, corner_rules}
 use Rattle.cert_check.specs.Ends.{IsBreak}
 use Rattle.cert_check.specs.Rules.{IsFirstBroken}
 use Rattle.cert_check.specs.Truth.{IsTrueCorner}
-use Rattle.cert_check.specs.declared.verdicts.Cause.{Cause}
-use Rattle.cert_check.specs.declared.verdicts.Cause.TheVariants.{Gain, Point, Width}
+use Rattle.report_form.specs.declared.verdicts.Cause.{Cause}
+use Rattle.report_form.specs.declared.verdicts.Cause.TheVariants.{Gain, Point, Width}
 use Rattle.cert_check.proofs.CheckedCorners.{corner_true, entries_are, first_gains, pays_first, second_gains}
 use Rattle.cert_check.proofs.RuleEnds.{break_for, error_named}
 use Rattle.cert_check.proofs.corners.check_corner.Goals as goal

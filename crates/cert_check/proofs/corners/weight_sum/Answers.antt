@@ -6,7 +6,7 @@ use Rattle.equilibrium.specs.Distribution.{total, entries_of}
 use Rattle.report_form.specs.Ranges.{IsPair}
 use Rattle.cert_check.proofs.Elements.{all_at}
 use Rattle.cert_check.proofs.PairSums.{none_after, total_step}
-use Rattle.cert_check.proofs.Sizes.{sum_passed}
+use Rattle.deviation_gains.proofs.Sizes.{sum_passed}
 use Rattle.cert_check.proofs.corners.weight_sum.Goals as goal
 
 pub loop-k-preserved : goal.loop-k-preserved

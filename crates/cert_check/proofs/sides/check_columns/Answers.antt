@@ -5,7 +5,7 @@ use Rattle.std.proofs.lemmas.Int.{to_z-of_z}
 use Rattle.corr_num.proofs.PrintedTerms.{narrow_returned}
 use Rattle.corr_game.specs.Game.{GameView}
 use Rattle.report_form.specs.declared.reports.Corner.{Corner}
-use Rattle.cert_check.specs.declared.verdicts.Cause.{Cause}
+use Rattle.report_form.specs.declared.verdicts.Cause.{Cause}
 use Rattle.cert_check.specs.Certified.{FailsAt, Passes, whole_of}
 use Rattle.cert_check.specs.Ends.{IsBreak}
 use Rattle.cert_check.specs.Rules.{by_column}

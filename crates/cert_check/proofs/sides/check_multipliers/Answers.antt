@@ -3,7 +3,7 @@ use Rattle.std.proofs.Common.{rules, Bool, true, false, refl, arith, length, pos
 use lib.Signed.{le_z, lt_z}
 use Rattle.std.specs.Int.{w128}
 use Rattle.std.proofs.lemmas.Int.{ints, to_z-of_z}
-use Rattle.cert_check.specs.declared.verdicts.Cause.TheVariants as cause
+use Rattle.report_form.specs.declared.verdicts.Cause.TheVariants as cause
 use Rattle.cert_check.specs.Certified.{whole_of}
 use Rattle.cert_check.specs.Ends.{IsBreak}
 use Rattle.cert_check.specs.SideRules.{EmptyRule, IsFirstCause, empty_rules}

@@ -3,7 +3,7 @@ use Rattle.std.proofs.Common.{◌≡◌, List}
 use Rattle.corr_game.specs.Game.{GameView}
 use Rattle.report_form.specs.Points.{points_of}
 use Rattle.report_form.specs.declared.reports.Corner.{Corner}
-use Rattle.cert_check.specs.declared.verdicts.Cause.{Cause}
+use Rattle.report_form.specs.declared.verdicts.Cause.{Cause}
 use Rattle.cert_check.specs.Certified.{whole_of}
 use Rattle.cert_check.specs.Ends.{IsBreak}
 use Rattle.cert_check.specs.Rules.{by_column}

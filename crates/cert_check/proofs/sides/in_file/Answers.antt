@@ -1,7 +1,7 @@
 -- The greatest scale is 2^24.
 use Rattle.std.proofs.Common.{rules}
 use Rattle.corr_num.proofs.PrintedTerms.{word_product_passed}
-use Rattle.cert_check.proofs.Sizes.{positive_product, scaled_size}
+use Rattle.deviation_gains.proofs.Sizes.{positive_product, scaled_size}
 use Rattle.cert_check.proofs.sides.in_file.Goals as goal
 
 pub returns-clause-positive : goal.returns-clause-positive

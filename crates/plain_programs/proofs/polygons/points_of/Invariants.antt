@@ -1,6 +1,0 @@
--- The corners so far are small.
-use Rattle.plain_programs.specs.SmallPolygon.{AreSmallPoints}
-use Rattle.plain_programs.proofs.polygons.points_of.Given as goal
-
-abbrev pub invariant-loop-one : goal.invariant-loop-one
-invariant-loop-one g l = AreSmallPoints l.points.items

@@ -1,0 +1,9 @@
+pub mod ExitNumbers
+pub mod OneFileRefused
+pub mod OneGameScaled
+pub mod OnePairs
+pub mod OneRecall
+pub mod OneRefusal
+pub mod OneSize
+pub mod OneTriangle
+pub mod RightTrue
