@@ -134,11 +134,11 @@ def bargaining(step, rounds):
         if left == 0:
             return end(0, 0)
         proposer, whole = 1 + len(history) % 2, 100 // 2 ** len(history)
-        return sets.move(proposer, history, [answer(history, proposer, whole, part, left) for part in range(0, whole + 1, step)])
+        return sets.move(proposer, ("offers", history), [answer(history, proposer, whole, part, left) for part in range(0, whole + 1, step)])
 
     def answer(history, proposer, whole, part, left):
         agreed = end(whole - part, part) if proposer == 1 else end(part, whole - part)
-        return sets.move(3 - proposer, (*history, part), [agreed, offer((*history, part), left - 1)])
+        return sets.move(3 - proposer, ("answers", *history, part), [agreed, offer((*history, part), left - 1)])
 
     return offer((), rounds)
 
