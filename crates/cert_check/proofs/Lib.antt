@@ -4,11 +4,9 @@ mod CheckedCorners
 mod CheckedSides
 mod Faultless
 mod FirstBroken
-mod ColumnSums
 mod OneFault
 mod OneVerdict
 mod PairSums
-mod RestOfRow
 mod RuleEnds
 mod Accepted
 mod Shares

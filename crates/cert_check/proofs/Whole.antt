@@ -11,7 +11,7 @@ use Rattle.lp_form.proofs.Solving.{row_in_front}
 use Rattle.lp_form.specs.Certificates.{left_over, times_column}
 use Rattle.lp_form.specs.Program.{LpView, coefficient, entries_of, joined, payoff_of, payoff_row}
 use Rattle.lp_form.specs.Row.{value_at}
-use Rattle.cert_check.specs.Products.{product_to}
+use Rattle.column_sums.specs.Products.{product_to}
 
 row_behind : (base more : LpView) (row : ℕ) → entries_of (joined base more) (length base.rows + row) ≡ entries_of more row
 row_behind base more row = get_or-append-add base.rows more.rows row []

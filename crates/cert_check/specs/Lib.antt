@@ -3,7 +3,6 @@ pub mod Certified
 pub mod CornerRules
 pub mod Ends
 pub mod Fits
-pub mod Products
 pub mod Rules
 pub mod Scales
 pub mod SideRules

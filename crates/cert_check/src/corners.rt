@@ -18,10 +18,11 @@ ghost use Rattle.report_form.specs.declared.verdicts.Cause.TheVariants.{Gain, Po
 
 use crate::faults::RuleEnd;
 use crate::sides::{both_narrow, is_share, keep};
+use column_sums::plus_product;
 use connected_pairs::Pairs;
 use corr_game::{Game, Notion, Pair, PairList, Pays, Side, walk_pay};
 use corr_num::sum;
-use deviation_gains::{all_planned, gains, plus_product};
+use deviation_gains::{all_planned, gains};
 use report_form::{Cause, Corner};
 use std::alloc::Global;
 

@@ -15,7 +15,7 @@ use Rattle.sequences.specs.Number.{IsOwn, IsSide, SideView, last_of}
 use Rattle.equilibrium_solutions.proofs.MoveNumbers.{move_ends}
 use Rattle.deviation_gains.specs.Leaving.{AreSolved, IsGoneOver, IsLeft, IsSolved, IsWorth, StandInRow, leads_to, own_there}
 use Rattle.deviation_gains.proofs.LeftSteps.{put_grows}
-use Rattle.deviation_gains.proofs.Sizes.{put_length}
+use Rattle.column_sums.proofs.ProductSizes.{put_length}
 
 taken_at : (xs : List ℤ) (f k : ℕ) → k < f → slice_index_or (take f xs) k (pos 0) ≡ slice_index_or xs k (pos 0)
 taken_at xs zero k h = absurd (omega arith)

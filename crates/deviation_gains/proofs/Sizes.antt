@@ -10,17 +10,8 @@ use Rattle.corr_num.specs.Narrow.{Narrow}
 use Rattle.corr_num.proofs.MagnitudeBounds.{product_magnitude, sum_magnitude}
 use Rattle.corr_num.proofs.PrintedTerms.{returned}
 
-pub product_size : (f n : ℤ) → Narrow f → unsigned_abs (f *ℤ n) ≤ 2 ^ 62 * unsigned_abs n
-product_size f n p = product_magnitude f n (2 ^ 62) (unsigned_abs n) (omega arith) (omega arith)
-
-pub more_size : (t f n : ℤ) → Narrow f → unsigned_abs (t +ℤ f *ℤ n) ≤ unsigned_abs t + 2 ^ 62 * unsigned_abs n
-more_size t f n p = omega (arith, sum_magnitude t (f *ℤ n), product_size f n p)
-
 pub size_back : (z : ℤ) → FitsSigned w128 z → unsigned_abs (to_z w128 (of_z w128 z)) ≡ unsigned_abs z
 size_back z f = ap (λ (y : ℤ). unsigned_abs y) (to_z-of_z w128 z f)
-
-pub size_passed : (z : ℤ) (m : ℕ) → unsigned_abs z ≤ m → m < 2 ^ 127 → unsigned_abs (to_z w128 (of_z w128 z)) ≤ m
-size_passed z m h s = rw (returned z (omega arith)) h
 
 -- a number from this place on, and all numbers before the place
 pub reach_take : (xs : List ℤ) (f k : ℕ) → f ≤ k → unsigned_abs (slice_index_or xs k (pos 0)) + reach (take f xs) ≤ reach xs
@@ -56,13 +47,6 @@ positive_product (negsuc m) b p q = absurd (omega (arith, ints))
 pub scaled_size : (a b : ℤ) → Narrow a → pos 1 ≤ℤ b → b ≤ℤ pos (2 ^ 24) → unsigned_abs (a *ℤ b) < 2 ^ 126
 scaled_size a b p q r = omega (arith, product_magnitude a b (2 ^ 62) (2 ^ 24) (omega arith) (omega (arith, ints)))
 
-pub more_passed : (r p t f n : ℤ) → Narrow f → unsigned_abs n ≤ 2 ^ 62 → unsigned_abs t ≤ 2 ^ 125 → p ≡ to_z w128 (of_z w128 f) *ℤ to_z w128 (of_z w128 n)
-    → r ≡ to_z w128 (of_z w128 t) +ℤ to_z w128 (of_z w128 p) → to_z w128 (of_z w128 r) ≡ t +ℤ f *ℤ n
-more_passed r p t f n narrow small before e g =
-    let size : unsigned_abs (f *ℤ n) ≤ 2 ^ 124 = omega (arith, product_size f n narrow) in
-    rw (g, e, returned t (omega arith), returned f (omega arith), returned n (omega arith), returned (f *ℤ n) (omega arith))
-    (returned (t +ℤ f *ℤ n) (omega (arith, sum_magnitude t (f *ℤ n))))
-
 pub at_same : {X : Type 0} (P : X → Type 0) (xs : List X) (j k : ℕ) (x y : X) → j ≡ k → slice_get xs j ≡ Some x → slice_get xs k ≡ Some y → P y → P x
 at_same P xs j k x y s e f p = subst P (sym (get_or_from_slice_get xs k y x f) ∙ ap (λ m. get_or xs m x) (sym s) ∙ get_or_from_slice_get xs j x x e) p
 
@@ -82,11 +66,6 @@ sum_size r x b p q e = rw (e, returned x (omega arith), returned b (omega arith)
 pub sum_passed : (r x b : ℤ) → unsigned_abs x ≤ 2 ^ 120 → unsigned_abs b ≤ 2 ^ 120 → r ≡ x +ℤ to_z w128 (of_z w128 b)
     → to_z w128 (of_z w128 r) ≡ x +ℤ b
 sum_passed r x b p q e = rw (e, returned b (omega arith)) (returned (x +ℤ b) (omega (arith, sum_magnitude x b)))
-
-pub put_length : (xs : List ℤ) (k : ℕ) (v : ℤ) → length (slice_set xs k v) ≡ length xs
-put_length [] k v = refl
-put_length (x ∷ xs) zero v = refl
-put_length (x ∷ xs) (suc k) v = ap suc (put_length xs k v)
 
 pub take_short : (xs : List ℤ) (f : ℕ) → length (take f xs) ≤ f
 take_short [] zero = omega arith

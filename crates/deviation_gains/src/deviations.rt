@@ -15,7 +15,7 @@ ghost use Rattle.deviation_gains.specs.Leaving.{TellsFollowed, TellsLeft, paid_b
 ghost use Rattle.deviation_gains.specs.Reach.{reach};
 ghost use Rattle.deviation_gains.specs.Triggers.{IsKnown};
 
-use crate::sums::plus_product;
+use column_sums::plus_product;
 use connected_pairs::Pairs;
 use corr_game::{Game, Node, Pair, PairList, Pay, Plan, SetId, Side};
 use corr_num::sum;

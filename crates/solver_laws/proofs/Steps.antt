@@ -10,7 +10,8 @@ use Rattle.lp_form.specs.Program.{IsLp, LpView, coefficient, entries_of, joined}
 use Rattle.lp_form.specs.declared.entries.Entry.{Entry}
 use Rattle.lp_form.specs.Row.{Ascends, IsRow, value_at}
 use Rattle.plan_polytope.specs.Bounds.{AreUnits}
-use Rattle.cert_check.specs.Bounds.{AreSteps, AreWithin, IsBounded, IsStep}
+use Rattle.column_sums.specs.Bounds.{AreSteps, AreWithin, IsStep}
+use Rattle.cert_check.specs.Bounds.{IsBounded}
 use Rattle.cert_check.specs.Certified.{whole_of}
 
 pub within_all : (bound : ℕ) (sums : List ℤ) → AreWithin bound sums ↔ All (λ x. unsigned_abs x ≤ bound) sums

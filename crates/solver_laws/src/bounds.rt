@@ -2,7 +2,8 @@
 ghost use Rattle.std.specs.Prelude.{◌↔◌, ℕ, ◌^◌, ◌≤◌, All, List, ℤ, unsigned_abs};
 ghost use Rattle.lp_form.specs.Program.{IsLp, LpView, joined};
 ghost use Rattle.plan_polytope.specs.Bounds.{AreUnits};
-ghost use Rattle.cert_check.specs.Bounds.{AreSteps, AreWithin, IsBounded, IsStep};
+ghost use Rattle.column_sums.specs.Bounds.{AreSteps, AreWithin, IsStep};
+ghost use Rattle.cert_check.specs.Bounds.{IsBounded};
 ghost use Rattle.cert_check.specs.Certified.{whole_of};
 ghost use Rattle.lp_form.specs.declared.entries.Entry.{Entry};
 ghost use Rattle.lp_form.specs.Row.{IsRow};

@@ -3,7 +3,7 @@ use Rattle.std.proofs.Common.{◌+◌, ◌<◌, ◌≤◌, ◌^◌, ◌∙◌, u
 use Rattle.corr_game.specs.declared.sides.Side.TheVariants.{One, Two}
 use Rattle.corr_game.proofs.WalkSteps.{walk-bound}
 use Rattle.corr_num.proofs.PrintedTerms.{narrow_returned, returned}
-use Rattle.deviation_gains.proofs.Sizes.{size_passed}
+use Rattle.column_sums.proofs.ProductSizes.{size_passed}
 use Rattle.cert_check.proofs.corners.plus_pair.Goals as goal
 
 pub plus_product-requires-clause-number : goal.plus_product-requires-clause-number

@@ -1,7 +1,7 @@
 -- The correlation rows add 2^86 at most, the incentive rows 2^115.
 use Rattle.std.proofs.Common.{rules, ℕ, ◌+◌, ◌^◌, ◌*◌, ◌≤◌, length, get_or, pos, unsigned_abs, arith}
-use Rattle.cert_check.specs.Products.{product_to}
-use Rattle.cert_check.proofs.ColumnSums.{product_bound, sum_bound, zero_at}
+use Rattle.column_sums.specs.Products.{product_to}
+use Rattle.column_sums.proofs.ColumnSums.{product_bound, sum_bound, zero_at}
 use Rattle.cert_check.proofs.Whole.{both_added, nothing_at, products_of_both}
 use Rattle.cert_check.proofs.multipliers.column_products.Goals as goal
 

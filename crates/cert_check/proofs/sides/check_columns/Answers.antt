@@ -11,7 +11,7 @@ use Rattle.cert_check.specs.Ends.{IsBreak}
 use Rattle.cert_check.specs.Rules.{by_column}
 use Rattle.cert_check.specs.SideRules.{IsFirstCause, SideRule, sign, width}
 use Rattle.cert_check.proofs.FirstBroken.{column_breaks, columns_hold}
-use Rattle.cert_check.proofs.RestOfRow.{get_default}
+use Rattle.column_sums.proofs.RestOfRow.{get_default}
 use Rattle.cert_check.proofs.RuleEnds.{break_for, column_fails, column_holds, error_named}
 use Rattle.cert_check.proofs.sides.check_columns.Goals as goal
 

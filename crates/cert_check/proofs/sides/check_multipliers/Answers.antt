@@ -8,7 +8,7 @@ use Rattle.cert_check.specs.Certified.{whole_of}
 use Rattle.cert_check.specs.Ends.{IsBreak}
 use Rattle.cert_check.specs.SideRules.{EmptyRule, IsFirstCause, empty_rules}
 use Rattle.cert_check.proofs.CheckedSides.{above_first, empty_true, sign_first, width_first}
-use Rattle.cert_check.proofs.RestOfRow.{get_default}
+use Rattle.column_sums.proofs.RestOfRow.{get_default}
 use Rattle.cert_check.proofs.RuleEnds.{break_of, error_named}
 use Rattle.cert_check.proofs.sides.check_multipliers.Goals as goal
 

@@ -7,7 +7,8 @@ use Rattle.corr_num.proofs.PrintedTerms.{returned}
 use Rattle.corr_num.proofs.MagnitudeBounds.{sum_magnitude}
 use Rattle.deviation_gains.proofs.GreatestSets.{gone_on, worth_at_last, worth_here}
 use Rattle.deviation_gains.proofs.LeftSteps.{stood_here}
-use Rattle.deviation_gains.proofs.Sizes.{cut_length, cut_put, cut_size, put_length, reach_get, size_passed, sum_size}
+use Rattle.column_sums.proofs.ProductSizes.{put_length, size_passed}
+use Rattle.deviation_gains.proofs.Sizes.{cut_length, cut_put, cut_size, reach_get, sum_size}
 use Rattle.deviation_gains.proofs.deviations.+best_from.Goals as goal
 
 pub overflow_cast-len : goal.overflow_cast-len

@@ -6,7 +6,8 @@ use Rattle.sequences.specs.Number.{Plays, side_of}
 use Rattle.connected_pairs.specs.Connected.{other}
 use Rattle.corr_num.proofs.PrintedTerms.{narrow_returned, returned}
 use Rattle.deviation_gains.proofs.LeftSteps.{leaf_grows, leaf_stays, told_false, told_true}
-use Rattle.deviation_gains.proofs.Sizes.{reach_get, reach_put, size_passed}
+use Rattle.column_sums.proofs.ProductSizes.{size_passed}
+use Rattle.deviation_gains.proofs.Sizes.{reach_get, reach_put}
 use Rattle.deviation_gains.proofs.deviations.add_leaf.Goals as goal
 
 pub plus_product-requires-clause-before : goal.plus_product-requires-clause-before

@@ -1,6 +1,6 @@
 -- The product comes back as it was, and so does the sum.
-use Rattle.deviation_gains.proofs.Sizes.{more_passed, more_size}
-use Rattle.deviation_gains.proofs.sums.plus_product.Goals as goal
+use Rattle.column_sums.proofs.ProductSizes.{more_passed, more_size}
+use Rattle.column_sums.proofs.products.plus_product.Goals as goal
 
 pub returns-clause-bound : goal.returns-clause-bound
 returns-clause-bound c =

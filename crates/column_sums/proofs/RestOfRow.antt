@@ -8,7 +8,7 @@ use Rattle.corr_num.specs.Narrow.{Narrow}
 use Rattle.corr_num.proofs.PrintedTerms.{returned, word_passed}
 use Rattle.lp_form.specs.declared.entries.Entry.{Entry}
 use Rattle.lp_form.specs.Row.{value_at, Ascends}
-use Rattle.deviation_gains.proofs.Sizes.{product_size}
+use Rattle.column_sums.proofs.ProductSizes.{product_size}
 use Rattle.corr_num.proofs.MagnitudeBounds.{sum_magnitude}
 
 pub value_at-hit : (entry : Entry) (rest : List Entry) (col : ℕ) → entry.col ≡ col → value_at (entry ∷ rest) col ≡ entry.value

@@ -6,9 +6,9 @@ use Rattle.std.proofs.lemmas.Int.{ints}
 use Rattle.std.proofs.lemmas.List.{get_or-set_same, get_or-set_other}
 use Rattle.corr_num.proofs.PrintedTerms.{narrow_returned, word_passed}
 use Rattle.lp_form.specs.declared.entries.Entry.{Entry}
-use Rattle.cert_check.proofs.RestOfRow.{all_moved, entry_passed, get_default, met, moved, none_left, unmoved}
-use Rattle.deviation_gains.proofs.Sizes.{put_length, size_passed}
-use Rattle.cert_check.proofs.multipliers.add_row.Goals as goal
+use Rattle.column_sums.proofs.RestOfRow.{all_moved, entry_passed, get_default, met, moved, none_left, unmoved}
+use Rattle.column_sums.proofs.ProductSizes.{put_length, size_passed}
+use Rattle.column_sums.proofs.rows.add_row.Goals as goal
 
 pub index-requires : goal.index-requires
 index-requires c =

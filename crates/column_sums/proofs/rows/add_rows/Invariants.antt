@@ -1,7 +1,7 @@
 -- The sums have the products with the rows gone over.
 use Rattle.std.proofs.Common.{◌≡◌, ℕ, length, get_or, pos, ◌+ℤ◌}
-use Rattle.cert_check.specs.Products.{product_to}
-use Rattle.cert_check.proofs.multipliers.add_rows.Given as goal
+use Rattle.column_sums.specs.Products.{product_to}
+use Rattle.column_sums.proofs.rows.add_rows.Given as goal
 
 abbrev pub invariant-loop-row : goal.invariant-loop-row
 invariant-loop-row l = record {

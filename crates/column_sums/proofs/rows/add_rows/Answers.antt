@@ -4,9 +4,9 @@ use Rattle.std.proofs.lemmas.Int.{ints}
 use Rattle.corr_num.proofs.PrintedTerms.{narrow_returned}
 use Rattle.corr_num.specs.Narrow.{Narrow}
 use Rattle.lp_form.specs.Program.{coefficient}
-use Rattle.cert_check.specs.Products.{product_to}
-use Rattle.cert_check.proofs.ColumnSums.{one_more, product_bound, product_more, product_none, steps_left, sum_bound}
-use Rattle.cert_check.proofs.multipliers.add_rows.Goals as goal
+use Rattle.column_sums.specs.Products.{product_to}
+use Rattle.column_sums.proofs.ColumnSums.{one_more, product_bound, product_more, product_none, steps_left, sum_bound}
+use Rattle.column_sums.proofs.rows.add_rows.Goals as goal
 
 pub loop-row-init : goal.loop-row-init
 loop-row-init c = record { count = refl; value = λ k. omega (arith, ints, product_none c.args.first k c.args.list.now c.args.lp.now) }

@@ -1,7 +1,7 @@
 -- What the rest of the row adds to the sums so far is what the whole row adds to those before.
 use Rattle.std.proofs.Common.{◌≡◌, ℕ, drop, length, get_or, pos, ◌+ℤ◌, ◌*ℤ◌}
 use Rattle.lp_form.specs.Row.{value_at}
-use Rattle.cert_check.proofs.multipliers.add_row.Given as goal
+use Rattle.column_sums.proofs.rows.add_row.Given as goal
 
 abbrev pub invariant-loop-entry : goal.invariant-loop-entry
 invariant-loop-entry l = record {
