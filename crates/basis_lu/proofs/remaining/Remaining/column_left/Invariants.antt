@@ -1,0 +1,4 @@
+use Rattle.basis_lu.proofs.remaining.Remaining.column_left.Given as goal
+
+abbrev pub decreases-loop-link : goal.decreases-loop-link
+decreases-loop-link l = l.number

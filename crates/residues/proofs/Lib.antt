@@ -1,0 +1,5 @@
+pub mod Differences
+pub mod Factors
+pub mod Folding
+pub mod Inverses
+pub mod Products

@@ -1,0 +1,2 @@
+pub mod FractionOf
+pub mod Remainder
