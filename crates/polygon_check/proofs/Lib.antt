@@ -1,0 +1,3 @@
+mod CornerParts
+mod Elements
+mod RowSums

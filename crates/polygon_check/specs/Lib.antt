@@ -1,0 +1,3 @@
+pub mod CornerParts
+pub mod SideParts
+pub mod SmallRow

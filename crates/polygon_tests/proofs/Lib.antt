@@ -1,0 +1,2 @@
+mod OneChange
+mod Standing
