@@ -2,6 +2,7 @@ mod Beginning
 mod Cutting
 mod Inside
 mod Joined
+mod MadePoints
 mod Marking
 mod MeansPaid
 mod Outcomes

@@ -112,7 +112,7 @@ points_are_fractions corners each k point at =
     let same : found.0.point ≡ point = cc (point_there corners k found.0 found.1, at) in
     rw (← same) (ranges.0.lowest, ranges.1.lowest)
 
-sides_stand : (corners : List Corner) (sides : List SideRow) → All (IsSide (length corners)) sides
+pub sides_stand : (corners : List Corner) (sides : List SideRow) → All (IsSide (length corners)) sides
     → StandAtCorners (length (points_of corners)) sides
 sides_stand corners sides each k side at =
     rw (length-map corners (λ (c : Corner). c.point)) (element (IsSide (length corners)) sides k side each at).1

@@ -2,7 +2,6 @@
 use Rattle.std.proofs.Common.{◌≡◌, ℕ, List, Bool, Some, true, Result, Ok, Err, slice_get, sym, subst}
 use Rattle.std.specs.Result.{IfOk}
 use Rattle.std.specs.declared.alloc.AllocError.{AllocError}
-use Rattle.corr_game.specs.declared.notions.Notion.{Notion}
 use Rattle.corr_game.specs.Game.{GameView}
 use Rattle.connected_pairs.specs.Connected.{PairsView}
 use Rattle.lp_form.specs.Program.{LpView}
@@ -12,12 +11,11 @@ use Rattle.int_tableau.specs.declared.ends.PivotEnd.TheVariants.{Wide}
 use Rattle.int_tableau.specs.Content.{Content, IsProgramRow}
 use Rattle.bland_simplex.proofs.Reaching.{listed_wide}
 use Rattle.bland_simplex.specs.Reachable.{IsLeftWide, LeavesWide, ListsBasis}
-use Rattle.plan_polytope.specs.NotionProgram.{IsProgramOf}
 use Rattle.report_form.specs.Ranges.{AscendFrom}
 use Rattle.report_form.specs.declared.reports.Block.{Block}
 use Rattle.report_form.specs.declared.reports.Block.TheVariants.{Found, Empty, TooWide}
 use Rattle.notion_solve.proofs.Marking.{ascend_apart}
-use Rattle.notion_solve.specs.Shown.{IsShown, IsShownFor}
+use Rattle.notion_solve.specs.Shown.{IsShown}
 use Rattle.notion_solve.specs.WideBlock.{NamesBasis}
 
 pub names : (t : Content) (marks : List Bool) (columns : List ℕ)
@@ -38,14 +36,13 @@ shown_by g p lp left place (Empty multipliers) leaves named = absurd named
 shown_by g p lp left place (TooWide basis at) leaves named = listed_wide lp left at basis
     (subst (λ other. LeavesWide lp left other) (sym named.1) leaves) named.0
 
-shown_ok : (g : GameView) (p : PairsView) (notion : Notion) (lp : LpView) (left : Content) (place : Place)
-    (made : Result Block AllocError) → IsProgramOf g p notion lp → LeavesWide lp left place
-    → IfOk made (NamesBasis left place) → IfOk made (IsShownFor g p notion)
-shown_ok g p notion lp left place (Ok block) program leaves named = (lp, program, shown_by g p lp left place block leaves named)
-shown_ok g p notion lp left place (Err short) program leaves named = tt
+shown_ok : (g : GameView) (p : PairsView) (lp : LpView) (left : Content) (place : Place) (made : Result Block AllocError)
+    → LeavesWide lp left place → IfOk made (NamesBasis left place) → IfOk made (IsShown g p lp)
+shown_ok g p lp left place (Ok block) leaves named = shown_by g p lp left place block leaves named
+shown_ok g p lp left place (Err short) leaves named = tt
 
-pub wide_shown : (g : GameView) (p : PairsView) (notion : Notion) (lp : LpView) (left : Content) (end : PivotEnd) (place : Place)
-    (made : Result Block AllocError) → IsProgramOf g p notion lp
-    → end ≡ Wide place → IsLeftWide lp left end → IfOk made (NamesBasis left place) → IfOk made (IsShownFor g p notion)
-wide_shown g p notion lp left end place made program is leaves named =
-    shown_ok g p notion lp left place made program (subst (λ other. IsLeftWide lp left other) is leaves) named
+pub wide_shown : (g : GameView) (p : PairsView) (lp : LpView) (left : Content) (end : PivotEnd) (place : Place)
+    (made : Result Block AllocError) → end ≡ Wide place → IsLeftWide lp left end → IfOk made (NamesBasis left place)
+    → IfOk made (IsShown g p lp)
+wide_shown g p lp left end place made is leaves named =
+    shown_ok g p lp left place made (subst (λ other. IsLeftWide lp left other) is leaves) named

@@ -1,3 +1,4 @@
+pub mod Belts
 pub mod Outcome
 pub mod Paid
 pub mod Programs

@@ -4,10 +4,7 @@ ghost use Rattle.incentive_rows.specs.Size.{HasSize};
 ghost use Rattle.bland_simplex.specs.Open.{IsProgram};
 ghost use Rattle.bland_simplex.specs.Reachable.{IsLeftWide};
 ghost use Rattle.int_tableau.specs.Content.{IsTableau};
-ghost use Rattle.int_tableau.specs.Start.{IsStart};
-ghost use Rattle.polygon_sweep.specs.Round.{AreApart, GoneRound};
-ghost use Rattle.polygon_sweep.specs.Swept.{IsSwept};
-ghost use Rattle.lp_form.specs.Program.{LpView};
+ghost use Rattle.int_tableau.specs.Start.{IsStart, StartsNarrow};
 ghost use Rattle.lp_form.specs.Solutions.{HasBoundedPayoffs};
 ghost use Rattle.triangle_test.specs.Triangle.{HasNoTriangle};
 ghost use Rattle.notion_solve.specs.Outcome.{IsOutcome};
@@ -16,8 +13,9 @@ ghost use Rattle.notion_solve.specs.Right.{HasBelt, IsRightFor};
 ghost use Rattle.notion_solve.specs.Shown.{IsShown, IsShownFor};
 ghost use Rattle.report_form.specs.Ranges.{IsBlock};
 
-use crate::corners::corners_of;
+use crate::polygons::found;
 use crate::programs::program;
+use crate::searches::searched;
 use crate::wide::too_wide;
 use bland_simplex::{Found, feasible};
 use connected_pairs::Pairs;
@@ -64,7 +62,8 @@ pub fn solve(alloc: Global, game: &Game, pairs: &Pairs, notion: Notion) -> Resul
     Ok(block)
 }
 
-/// A block with the solutions and multipliers that show it.
+/// A block with the solutions and multipliers that show it: that of a polygon which a search proposed and which was
+/// checked, or else that of the tableau.
 fn shown(alloc: Global, game: &Game, pairs: &Pairs, notion: Notion) -> Result<Block, NoMemory>
     requires whose { IsPairsOf game.now pairs.now }
     requires no_triangle { HasNoTriangle pairs.now }
@@ -74,30 +73,34 @@ fn shown(alloc: Global, game: &Game, pairs: &Pairs, notion: Notion) -> Result<Bl
     ensures belt { IfOk result HasBelt }
 {
     let lp = program(alloc, game, pairs, notion)?;
-    let mut table = Dense::start(alloc, &lp)?;
-    match explore(alloc, &lp, &mut table) {
-        Ok(Outcome::Polygon(swept)) => found(alloc, game, pairs, swept),
+    let block = match searched(alloc, game, pairs, &lp)? {
+        Some(block) => block,
+        None => by_tableau(alloc, game, pairs, &lp)?,
+    };
+    Ok(block)
+}
+
+/// The block of a program by the proved method alone.
+fn by_tableau(alloc: Global, game: &Game, pairs: &Pairs, lp: &Lp) -> Result<Block, NoMemory>
+    requires whose { IsPairsOf game.now pairs.now }
+    requires no_triangle { HasNoTriangle pairs.now }
+    requires program { IsProgram lp.now }
+    requires narrow { StartsNarrow lp.now }
+    requires few_columns { lp.now.cols ≤ 8192 }
+    requires bounded { HasBoundedPayoffs lp.now }
+    requires over_rows { IsOverRows pairs.now lp.now }
+    ensures ranges { IfOk result IsBlock }
+    ensures shown { IfOk result (IsShown game.now pairs.now lp.now) }
+    ensures belt { IfOk result HasBelt }
+{
+    let mut table = Dense::start(alloc, lp)?;
+    match explore(alloc, lp, &mut table) {
+        Ok(Outcome::Polygon(swept)) => {
+            let block = found(alloc, game, pairs, swept)?;
+            Ok(block)
+        }
         Ok(Outcome::Empty(multipliers)) => Ok(Block::Empty { multipliers }),
         Err(PivotEnd::Wide(place)) => too_wide(alloc, &table, place),
         Err(PivotEnd::NoMemory) => Err(NoMemory),
     }
-}
-
-/// The block of a polygon.
-fn found(alloc: Global, game: &Game, pairs: &Pairs, swept: Swept) -> Result<Block, NoMemory>
-    requires whose { IsPairsOf game.now pairs.now }
-    requires no_triangle { HasNoTriangle pairs.now }
-    requires few { length pairs.now.pairs ≤ 8192 }
-    requires swept { (lp : LpView) × IsSwept lp swept × IsOverRows pairs.now lp }
-    requires round { GoneRound (AreApart swept.corners) (length swept.corners) swept.sides }
-    ensures ranges { IfOk result IsBlock }
-    ensures shown { IfOk result (λ block. (lp : LpView) → IsProgram lp → IsSwept lp swept → IsShown game.now pairs.now lp block) }
-    ensures belt { IfOk result HasBelt }
-{
-    let Swept { corners, sides } = swept;
-    let _ = (game.len(), sides.len());
-    Ok(Block::Found {
-        corners: corners_of(alloc, game, pairs, &corners)?,
-        sides,
-    })
 }

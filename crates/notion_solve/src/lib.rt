@@ -1,8 +1,9 @@
 //! The block of a report for one notion of correlated equilibrium.
 //!
-//! `solve` makes the notion's program, leads a tableau through both phases of the simplex method and once round the
-//! polygon of payoffs, and hands each corner's solution to the decomposition into pairs of plans. It stands on all crates
-//! of the solver, and on `equilibrium_solutions` for what the program's solutions are. The layer above uses that the block
+//! `solve` makes the notion's program and asks `polygon_search` for its polygon. Where `polygon_check` accepts what is
+//! proposed, that is the answer. Else a tableau goes through both phases of the simplex method and once round the polygon
+//! of payoffs. Each corner's solution is decomposed into pairs of plans. The crate depends on all crates of the solver, and
+//! on `equilibrium_solutions` for what the program's solutions are. The layer above uses that the block
 //! is right for the notion (`IsRightFor`): a polygon inside of which lies exactly what equilibrium lists pay, or that there
 //! is no such list, or a basis that is too wide; and that every number of it is in a report's ranges.
 #![tactic(auto)]
@@ -10,7 +11,9 @@
 mod blocks;
 mod corners;
 mod laws;
+mod polygons;
 mod programs;
+mod searches;
 mod wide;
 
 pub use blocks::solve;

@@ -3,6 +3,7 @@ ghost use Rattle.lp_form.specs.Solutions.{HasBoundedPayoffs};
 ghost use Rattle.connected_pairs.specs.Connected.{IsPairsOf};
 ghost use Rattle.incentive_rows.specs.Size.{HasSize};
 ghost use Rattle.lp_form.specs.Program.{IsProgram};
+ghost use Rattle.lp_form.specs.Small.{IsSmall};
 ghost use Rattle.int_tableau.specs.Start.{StartsNarrow};
 ghost use Rattle.notion_solve.specs.Programs.{IsOverRows};
 ghost use Rattle.plan_polytope.specs.NotionProgram.{IsProgramOf};
@@ -19,6 +20,7 @@ pub fn program(alloc: Global, game: &Game, pairs: &Pairs, notion: Notion) -> Res
     requires whose { IsPairsOf game.now pairs.now }
     requires size { (rows columns : ℕ) × HasSize game.now pairs.now notion rows columns × (rows ≤ 2048) × (columns ≤ 8192) }
     ensures program { IfOk result (λ lp. IsProgram lp) }
+    ensures small { IfOk result (λ lp. IsSmall lp) }
     ensures narrow { IfOk result (λ lp. StartsNarrow lp) }
     ensures few_rows { IfOk result (λ lp. length lp.rows ≤ 2048) }
     ensures few_columns { IfOk result (λ lp. lp.cols ≤ 8192) }

@@ -18,10 +18,11 @@ returns-clause-few_rows c =
     c.in_ok-base.ensures.rows c.in_ok-more.ensures.rows in
     rw c.in_ok-lp.ensures.both (omega (arith, rows, size.3))
 
+pub returns-clause-small : goal.returns-clause-small
+returns-clause-small c = c.in_ok-lp.ensures.small c.in_ok-base.ensures.small c.in_ok-more.ensures.small
+
 pub returns-clause-narrow : goal.returns-clause-narrow
-returns-clause-narrow c =
-    small_starts_narrow c.in_ok-lp.lp (c.in_ok-lp.ensures.small c.in_ok-base.ensures.small c.in_ok-more.ensures.small)
-    (returns-clause-few_rows c)
+returns-clause-narrow c = small_starts_narrow c.in_ok-lp.lp (returns-clause-small c) (returns-clause-few_rows c)
 
 pub returns-clause-bounded : goal.returns-clause-bounded
 returns-clause-bounded c = c.in_ok-lp.ensures.bounded c.in_ok-base.ensures.bounded

@@ -1,10 +1,9 @@
--- Corners and sides of a sweep are in the ranges of a report.
+-- Corners and sides of a polygon are in the ranges of a report.
 use Rattle.std.proofs.Common.{◌<◌, ◌≤◌, ◌^◌, length, arith}
-use Rattle.polygon_sweep.proofs.RoundBelt.{round_belt}
 use Rattle.notion_solve.proofs.Points.{certified_sides}
 use Rattle.notion_solve.proofs.PointsApart.{made_belt}
 use Rattle.notion_solve.proofs.Weighing.{all_side_ranges}
-use Rattle.notion_solve.proofs.blocks.found.Goals as goal
+use Rattle.notion_solve.proofs.polygons.found.Goals as goal
 
 pub returns-clause-ranges : goal.returns-clause-ranges
 returns-clause-ranges c =
@@ -26,7 +25,6 @@ returns-clause-shown c = λ lp program swept. (
 )
 
 pub returns-clause-belt : goal.returns-clause-belt
-returns-clause-belt c =
+returns-clause-belt c = λ round.
     made_belt c.args.game.now c.args.swept.corners c.in_ok-corners_of.field-0 c.args.swept.sides c.len.ensures.rules
-    c.in_ok-corners_of.ensures.ranges c.in_ok-corners_of.ensures.count c.in_ok-corners_of.ensures.points
-    (round_belt _ _ c.args.swept.sides c.requires.round)
+    c.in_ok-corners_of.ensures.ranges c.in_ok-corners_of.ensures.count c.in_ok-corners_of.ensures.points round
