@@ -1,14 +1,10 @@
-# bash completion for corr and the tools beside it: source this file, or lay it where bash-completion looks.
+# bash completion for corr and the tools next to it: source this file, or lay it where bash-completion looks. Where a function has nothing to
+# offer, bash completes file names by itself (`-o default`), after a redirection too.
 
 # _corr_offer WORD..: those of these words that begin with what is being typed.
 _corr_offer() {
   local IFS=$' \t\n'
   mapfile -t COMPREPLY < <(compgen -W "$*" -- "$word")
-}
-
-_corr_files() {
-  compopt -o filenames 2> /dev/null
-  mapfile -t COMPREPLY < <(compgen -f -- "$word")
 }
 
 # _corr_options OPTION..: those of these options that aren't given yet.
@@ -23,40 +19,52 @@ _corr_options() {
   _corr_offer "${left[@]}"
 }
 
-# _corr_values: completes the value of an option, if that is what is being typed.
+# _corr_values: completes the value of an option, if that is what is being typed. Of some values nothing is known: then nothing is offered.
 _corr_values() {
   case $before in
     --notion) _corr_offer efce efcce nfcce ;;
     --kind) _corr_offer public dilemma chain ;;
-    --game) _corr_files ;;
-    --n | --seed | --corner | --byte | --title) COMPREPLY=() ;;
+    --game) ;;
+    --n | --seed | --corner | --byte | --title) compopt +o default 2> /dev/null || true ;;
     *) return 1 ;;
   esac
 }
 
-_corr() {
-  local word=${COMP_WORDS[COMP_CWORD]} before=${COMP_WORDS[COMP_CWORD - 1]}
+# _corr_begin: what is being typed as `word`, what comes before it as `before`. Bash takes `--notion=efce` for three words.
+_corr_begin() {
+  word=${COMP_WORDS[COMP_CWORD]}
+  before=${COMP_WORDS[COMP_CWORD - 1]}
   COMPREPLY=()
+  if [ "$word" = = ]; then
+    word=
+  elif [ "$before" = = ] && [ "$COMP_CWORD" -gt 1 ]; then
+    before=${COMP_WORDS[COMP_CWORD - 2]}
+  fi
+}
+
+_corr() {
+  local word before
+  _corr_begin
   if [ "$COMP_CWORD" -eq 1 ]; then
-    _corr_offer solve check gen work
+    _corr_offer solve check gen work help --help --version
     return
   fi
   _corr_values && return
-  case ${COMP_WORDS[1]} in
-    solve) _corr_options --notion ;;
-    gen) _corr_options --kind --n --seed ;;
-    work) _corr_options --kind --n --seed --notion ;;
+  case ${COMP_WORDS[1]},$before,$word in
+    *,'<',* | *,'>',*) ;;
+    help,help,*) _corr_offer solve check gen work ;;
+    solve,*,-*) _corr_options --notion --help ;;
+    check,*,-*) _corr_options --help ;;
+    gen,*) _corr_options --kind --n --seed --help ;;
+    work,*) _corr_options --kind --n --seed --notion --help ;;
   esac
 }
 
 _corr_tool() {
-  local word=${COMP_WORDS[COMP_CWORD]} before=${COMP_WORDS[COMP_CWORD - 1]}
-  COMPREPLY=()
+  local word before
+  _corr_begin
   _corr_values && return
-  if [[ $word != -* ]]; then
-    _corr_files
-    return
-  fi
+  [[ $word == -* ]] || return
   case ${COMP_WORDS[0]##*/} in
     corr-plot) _corr_options --game --notion --title --stretch --help ;;
     corr-names) _corr_options --game --notion --corner --help ;;
@@ -65,6 +73,5 @@ _corr_tool() {
   esac
 }
 
-# Behind a redirection bash completes file names by itself.
-complete -F _corr corr
-complete -F _corr_tool corr-plot corr-names corr-welfare corr-where
+complete -o default -F _corr corr
+complete -o default -F _corr_tool corr-plot corr-names corr-welfare corr-where
