@@ -13,7 +13,8 @@ from fractions import Fraction
 
 NOTIONS = ("efce", "efcce", "nfcce")
 
-BAD_INPUT, BAD_WORDS, UNREADABLE, UNWRITABLE = 2, 64, 72, 74
+BAD_INPUT, BAD_WORDS, NO_PROGRAM, UNREADABLE, UNWRITABLE = 2, 64, 69, 72, 74
+QUOTED = 40  # the most signs of a line that a refusal repeats
 
 
 class Bad(Exception):
@@ -22,6 +23,14 @@ class Bad(Exception):
     def __init__(self, line, status=BAD_INPUT):
         super().__init__(line)
         self.status = status
+
+
+class Unread(Bad):
+    """A game file breaks off or stops being one: at which byte, and what was to come there."""
+
+    def __init__(self, at, awaited):
+        super().__init__(f"byte {at} of the game: {awaited} was to come")
+        self.at, self.awaited = at, awaited
 
 
 # Reports
@@ -41,7 +50,7 @@ PLACE = f"(?:{NATURAL}|first|second|phase) {NATURAL}"
 
 
 class _Lines:
-    """The lines of a report, taken one by one from the front of some bytes."""
+    """The lines of a report, taken one by one from the beginning of some bytes."""
 
     def __init__(self, data):
         self.data, self.at, self.number = data, 0, 0
@@ -54,10 +63,13 @@ class _Lines:
         """The groups of the next line, which has to be of this form."""
         line = self.peek()
         self.number += 1
-        match = re.fullmatch(pattern, line) if line is not None else None
+        if line is None:
+            rest = plain(self.data[self.at :][: 2 * QUOTED].decode("ascii", "replace"))
+            within = f"within line {self.number}, {what}, after '{shortened(rest, QUOTED)}'"
+            raise Bad(f"the report ends {within if rest else f'before line {self.number}, {what}'}")
+        match = re.fullmatch(pattern, line)
         if match is None:
-            ends = f"the report ends before line {self.number}, {what}"
-            raise Bad(ends if line is None else f"line {self.number} of the report isn't {what}")
+            raise Bad(f"line {self.number} of the report {_seen(line, what)}")
         self.at += len(line) + 1
         return match.groups()
 
@@ -68,8 +80,15 @@ class _Lines:
         return value
 
 
+def _seen(line, what):
+    """What is wrong with a line in place of which something else was to come."""
+    if line.endswith("\r"):
+        return "ends with CR LF: a report's lines end with LF alone"
+    return f"isn't {what}, but '{shortened(plain(line), QUOTED)}'"
+
+
 def read_report(data):
-    """The report at the front of some bytes, and the bytes behind it."""
+    """The report that some bytes begin with, and the bytes that follow it."""
     lines = _Lines(data)
     first = lines.peek()
     if first is not None and first.startswith(("refused ", "usage: ")):
@@ -131,8 +150,11 @@ def _side(lines, corners):
 
 # Game files
 
-Game = namedtuple("Game", "title players nodes sets")  # the sets of player 1 and of player 2, by the order of their first nodes
-Node = namedtuple("Node", "at kind name player number set_name actions")  # `at` is the node's first byte
+# The sets are those of player 1 and of player 2, by the order of their first nodes. `players_at` is the first byte of the list of players,
+# `player_places` has that of each name in it.
+Game = namedtuple("Game", "title players nodes sets players_at player_places")
+# `at` is the node's first byte; `set_at` and `outcome_at` are those of its set's and its outcome's number.
+Node = namedtuple("Node", "at kind name player number set_name actions probabilities outcome payoffs outcome_name set_at outcome_at")
 Set = namedtuple("Set", "number name actions node")
 
 WHITE = re.compile(rb"[\t-\r ]*")
@@ -142,7 +164,10 @@ NUMBER = re.compile(rb"[+-]?(?:[0-9]+(?:\.[0-9]*)?|\.[0-9]+|[0-9]+/[0-9]*[1-9][0
 
 
 class _Tokens:
-    """The tokens of a game file: the kind and bytes of the next one, and where it begins."""
+    """The tokens of a game file: the kind and bytes of the next one, and where it begins.
+
+    `tried` has what could come here and didn't, in words.
+    """
 
     def __init__(self, data):
         self.data = data
@@ -154,19 +179,24 @@ class _Tokens:
         match = TOKEN.match(self.data, self.at)
         self.kind, self.bytes = (match.lastgroup, match.group()) if match else (None, b"")
         self.end = match.end() if match else self.at
+        self.tried = []
 
-    def fail(self, what):
-        raise Bad(f"byte {self.at} of the game: {what} was to come")
+    def fail(self, *awaited):
+        *others, last = self.tried + list(awaited)
+        raise Unread(self.at, f"{', '.join(others)} or {last}" if others else last)
 
-    def text(self, what="a text"):
+    def text(self, what):
         if self.kind != "text":
             self.fail(what)
         content = self.bytes[1:-1].decode("utf-8", "replace").replace('\\"', '"')
         self.step()
         return content
 
-    def text_or_none(self):
-        return self.text() if self.kind == "text" else ""
+    def text_or_none(self, what):
+        if self.kind == "text":
+            return self.text(what)
+        self.tried.append(what)
+        return ""
 
     def word(self, pattern, what):
         if self.kind != "word" or not pattern.fullmatch(self.bytes):
@@ -175,20 +205,20 @@ class _Tokens:
         self.step()
         return word
 
-    def whole(self):
-        """The digits of a whole number, without zeros in front: it may have any number of them."""
-        return self.word(WHOLE, "a whole number").decode().lstrip("0") or "0"
+    def whole(self, what):
+        """The digits of a whole number, without leading zeros: it may have any number of them."""
+        return self.word(WHOLE, what).decode().lstrip("0") or "0"
+
+    def number(self, what):
+        return self.word(NUMBER, what).decode()
 
     def mark(self, mark):
         """Whether the mark comes next; it is then passed."""
         if self.bytes != mark:
+            self.tried.append(f"'{mark.decode()}'")
             return False
         self.step()
         return True
-
-    def needed(self, mark):
-        if not self.mark(mark):
-            self.fail(f"'{mark.decode()}'")
 
 
 def read_game(data):
@@ -197,42 +227,66 @@ def read_game(data):
     for word in (b"EFG", b"2", b"R"):
         tokens.word(re.compile(word), f"'{word.decode()}'")
     title = tokens.text("the title")
-    tokens.needed(b"{")
-    players = []
+    players_at = tokens.at
+    players, places = _players(tokens)
+    tokens.text_or_none("a comment")
+    nodes = _nodes(tokens)
+    return Game(title, players, nodes, {side: _sets(nodes, side) for side in (1, 2)}, players_at, places)
+
+
+def _players(tokens):
+    """The players' names, and where each begins."""
+    if not tokens.mark(b"{"):
+        tokens.fail()
+    players, places = [], []
     while not tokens.mark(b"}"):
+        places.append(tokens.at)
         players.append(tokens.text("a player's name"))
-    tokens.text_or_none()
+    return players, places
+
+
+def _nodes(tokens):
     nodes = []
-    while tokens.at < len(data):
+    while tokens.at < len(tokens.data):
         nodes.append(_node(tokens))
-    return Game(title, players, nodes, {side: _sets(nodes, side) for side in (1, 2)})
+    return nodes
 
 
 def _node(tokens):
     at = tokens.at
-    kind = tokens.word(re.compile(b"[cpt]"), "a node: c, p or t").decode()
+    kind = tokens.word(re.compile(b"[cpt]"), "a node (c, p or t)").decode()
     name = tokens.text("the node's name")
-    player = tokens.whole() if kind == "p" else None
-    number, set_name, actions = None, "", []
+    player = tokens.whole("the player's number") if kind == "p" else None
+    number, set_name, actions, probabilities, set_at = None, "", [], [], tokens.at
     if kind != "t":
-        number, set_name = tokens.whole(), tokens.text_or_none()
-        if tokens.mark(b"{"):
-            while not tokens.mark(b"}"):
-                actions.append(tokens.text("an action"))
-                if kind == "c":
-                    tokens.word(NUMBER, "a probability")
-    _outcome(tokens)
-    return Node(at, kind, name, player, number, set_name, actions)
+        called = "the set's" if kind == "p" else "the draw's"
+        number, set_name = tokens.whole(f"{called} number"), tokens.text_or_none(f"{called} name")
+        actions, probabilities = _actions(tokens, kind)
+    outcome_at = tokens.at
+    outcome, outcome_name, payoffs = _outcome(tokens)
+    return Node(at, kind, name, player, number, set_name, actions, probabilities, outcome, payoffs, outcome_name, set_at, outcome_at)
+
+
+def _actions(tokens, kind):
+    """A list of actions with its probabilities, as they are written; both are empty where the list is left out."""
+    actions, probabilities = [], []
+    if tokens.mark(b"{"):
+        while not tokens.mark(b"}"):
+            actions.append(tokens.text("an action"))
+            if kind == "c":
+                probabilities.append(tokens.number("a probability"))
+    return actions, probabilities
 
 
 def _outcome(tokens):
-    tokens.whole()
-    tokens.text_or_none()
+    """The outcome's number and name, and its payoffs as they are written, none where they are left out."""
+    number, name, payoffs = tokens.whole("the outcome's number"), tokens.text_or_none("the outcome's name"), []
     if tokens.mark(b"{"):
-        tokens.word(NUMBER, "a payoff")
+        payoffs.append(tokens.number("a payoff"))
         while not tokens.mark(b"}"):
             tokens.mark(b",")
-            tokens.word(NUMBER, "a payoff")
+            payoffs.append(tokens.number("a payoff"))
+    return number, name, payoffs
 
 
 def _sets(nodes, side):
@@ -286,16 +340,6 @@ def read_bytes(path):
         raise Bad(f"{'standard input' if path == '-' else path}: {fault.strerror}", UNREADABLE) from None
 
 
-def read_inputs(options):
-    """The report, and the game that `--game` names or that follows the report; None where there is none."""
-    report, rest = read_report(read_bytes(options.report))
-    if options.game is not None:
-        rest = read_bytes(options.game)
-    elif not WHITE.sub(b"", rest):
-        return report, None
-    return report, read_game(rest)
-
-
 def chosen(report, notion):
     """The blocks of a report, or that of one notion."""
     blocks = [block for block in report.blocks if notion in (None, block.notion)]
@@ -317,19 +361,26 @@ def point_text(point):
     return f"({point[0]}, {point[1]})"
 
 
+def shortened(text, length):
+    """The text, with its end left out where it has more signs than that."""
+    return text if len(text) <= length else text[: length - 1].rstrip() + "\u2026"
+
+
 def plain(text):
     """A name on one line: line ends and other control characters become spaces."""
     return "".join(sign if sign.isprintable() else " " for sign in text)
 
 
 def run(body):
-    """Runs a tool; its body takes the tool's name and the list of words, and gives the text that it writes."""
+    """Runs a tool. Its body takes the tool's name and the list of words, and gives the text or the bytes that it writes; or a pair of
+    these and the status, which is 0 otherwise."""
     for quiet in (signal.SIGINT, signal.SIGPIPE):
         signal.signal(quiet, signal.SIG_DFL)
     name = os.path.basename(sys.argv[0])
     try:
-        text = body(name, sys.argv[1:])
-        sys.stdout.buffer.write(text.encode("utf-8", "replace"))
+        made = body(name, sys.argv[1:])
+        made, status = made if isinstance(made, tuple) else (made, 0)
+        sys.stdout.buffer.write(made if isinstance(made, bytes) else made.encode("utf-8", "replace"))
         sys.stdout.buffer.flush()
     except Bad as bad:
         print(f"{name}: {plain(str(bad))}", file=sys.stderr)
@@ -337,3 +388,5 @@ def run(body):
     except OSError as fault:
         print(f"{name}: standard output: {fault.strerror}", file=sys.stderr, flush=True)
         os._exit(UNWRITABLE)  # without the flush that would fail once more
+    else:
+        sys.exit(status)
