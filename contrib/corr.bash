@@ -24,8 +24,10 @@ _corr_values() {
   case $before in
     --notion) _corr_offer efce efcce nfcce ;;
     --kind) _corr_offer public dilemma chain ;;
+    --labels) _corr_offer exact decimal number none ;;
+    --format) _corr_offer svg pdf ;;
     --game) ;;
-    --n | --seed | --corner | --byte | --title) compopt +o default 2> /dev/null || true ;;
+    --n | --seed | --corner | --byte | --title | --width | --font-size) compopt +o default 2> /dev/null || true ;;
     *) return 1 ;;
   esac
 }
@@ -66,12 +68,13 @@ _corr_tool() {
   _corr_values && return
   [[ $word == -* ]] || return
   case ${COMP_WORDS[0]##*/} in
-    corr-plot) _corr_options --game --notion --title --stretch --help ;;
+    corr-plot) _corr_options --game --notion --title --stretch --labels --payoffs --no-legend --width --font-size --format --help ;;
     corr-names) _corr_options --game --notion --corner --help ;;
     corr-welfare) _corr_options --game --notion --help ;;
     corr-where) _corr_options --byte --help ;;
+    corr-lint) _corr_options --help ;;
   esac
 }
 
 complete -o default -F _corr corr
-complete -o default -F _corr_tool corr-plot corr-names corr-welfare corr-where
+complete -o default -F _corr_tool corr-plot corr-names corr-welfare corr-where corr-lint

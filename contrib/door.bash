@@ -108,11 +108,25 @@ example:
 END
 }
 
+stop_missing() {
+  say "the file $1 is missing"
+  exit 69
+}
+
+stop_unread() {
+  say "$1 could not be read"
+  exit 72
+}
+
+stop_unwritten() {
+  say "standard output could not be written"
+  exit 74
+}
+
 # show COMMAND WORD..: prints what the command says, and ends.
 show() {
   "$@" 2> /dev/null && exit 0
-  say "standard output could not be written"
-  exit 74
+  stop_unwritten
 }
 
 # version CHANGELOG: the version that its first heading names.
@@ -136,7 +150,10 @@ answer_alone() {
   shift
   case $*,$# in
     help,1 | --help,1 | -h,1 | "help help,2") show help_all ;;
-    --version,1) show version "$changelog" ;;
+    --version,1)
+      [ -r "$changelog" ] || stop_missing "$changelog"
+      show version "$changelog"
+      ;;
     "help solve,2" | "help check,2" | "help gen,2" | "help work,2") show "help_$2" ;;
   esac
   case ${1-} in
@@ -213,16 +230,6 @@ prepare() {
   want_command "$@"
   read_words "$@"
   want_files
-}
-
-stop_unread() {
-  say "$1 could not be read"
-  exit 72
-}
-
-stop_unwritten() {
-  say "standard output could not be written"
-  exit 74
 }
 
 # open_files: makes what the files hold standard input. Two of them are joined by a `cat`, whose process is `joined`.
@@ -331,10 +338,7 @@ want_streams() {
 # enter PROGRAM: runs the program on what `prepare` found, and ends as it ends, by its signal too. Where this is killed, so is the program.
 enter() {
   local hold=() input="standard input"
-  if [ ! -x "$1" ]; then
-    say "the program $1 is missing"
-    exit 69
-  fi
+  [ -x "$1" ] || stop_missing "$1"
   ! type -P setpriv > /dev/null || hold=(setpriv --pdeathsig KILL)
   want_streams
   open_files
