@@ -1,6 +1,7 @@
 mod Beginning
 mod Cutting
-mod Inside
+pub mod ExactPolygons
+pub mod Inside
 mod Joined
 mod MadePoints
 mod Marking
@@ -10,9 +11,9 @@ mod Points
 mod PointsApart
 mod RightBlocks
 mod RightCorners
-mod RightEmpty
+pub mod RightEmpty
 mod RightPolygons
-mod Rightness
-mod Views
+pub mod Rightness
+pub mod Views
 mod Weighing
 mod WideBasis

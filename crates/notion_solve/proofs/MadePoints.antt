@@ -1,5 +1,5 @@
 -- Points that were put one by one are those of the corners.
-use Rattle.std.proofs.Common.{◌≡◌, ℕ, ◌<◌, suc, List, [], ◌∷◌, All, length, map, refl, ap, ap₂, ◌∙◌, arith}
+use Rattle.std.proofs.Common.{◌≡◌, ℕ, ◌<◌, suc, List, [], ◌∷◌, length, map, refl, ap₂, ◌∙◌, arith}
 use Rattle.std.specs.Prelude.{Some, slice_get}
 use Rattle.plane_hull.specs.declared.sides.Point.{Point}
 use Rattle.report_form.specs.declared.reports.Corner.{Corner}

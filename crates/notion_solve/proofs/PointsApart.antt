@@ -18,7 +18,7 @@ use Rattle.report_form.specs.declared.reports.Corner.{Corner}
 use Rattle.report_form.specs.Points.{points_of}
 use Rattle.report_form.specs.Ranges.{IsCorner}
 use Rattle.notion_solve.proofs.Inside.{over_one}
-use Rattle.notion_solve.proofs.RightPolygons.{points_are_fractions}
+use Rattle.notion_solve.proofs.ExactPolygons.{points_are_fractions}
 use Rattle.notion_solve.proofs.Rightness.{point_there}
 use Rattle.notion_solve.specs.Shown.{ArePointsOf}
 

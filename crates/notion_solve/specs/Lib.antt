@@ -1,4 +1,5 @@
 pub mod Belts
+pub mod Exact
 pub mod Outcome
 pub mod Paid
 pub mod Programs

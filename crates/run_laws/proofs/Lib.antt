@@ -7,3 +7,4 @@ pub mod OneRefusal
 pub mod OneSize
 pub mod OneTriangle
 pub mod RightTrue
+pub mod TrueExact

@@ -1,13 +1,12 @@
 -- The points are those of the corners, at which the sides stand.
-use Rattle.std.proofs.Common.{◌≡◌, List, length, subst, ap, ◌∙◌, arith}
+use Rattle.std.proofs.Common.{◌≡◌, subst, ◌∙◌, arith}
 use Rattle.std.proofs.lemmas.List.{length-map}
-use Rattle.plane_hull.specs.declared.sides.Point.{Point}
 use Rattle.report_form.specs.Points.{points_of}
 use Rattle.report_form.specs.Ranges.{IsBlock}
 use Rattle.report_form.specs.declared.reports.Block.{Block}
 use Rattle.report_form.specs.declared.reports.Block.TheVariants.{Found}
 use Rattle.report_form.specs.declared.reports.Corner.{Corner}
-use Rattle.notion_solve.proofs.RightPolygons.{sides_stand}
+use Rattle.notion_solve.proofs.ExactPolygons.{sides_stand}
 use Rattle.notion_solve.proofs.polygons.has_belt.Goals as goal
 
 pub belt-requires-clause-a_corner : goal.belt-requires-clause-a_corner
