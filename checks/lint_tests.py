@@ -121,10 +121,14 @@ def warnings():
 # The files of examples/
 
 # Only these have warnings. Each is true: the names of outcomes stand for what happened, which pays differently from case to case; First's
-# payoffs in the centipede are 4, 2, 16, 8 and 64; and in the smallest file nobody moves.
+# payoffs in the centipede are 4, 2, 16, 8 and 64, and go on so with ten moves; in the bargaining over 100 parts are tens; and in the
+# smallest file nobody moves.
 JUDGED = {
     "alternating-offers": ['line 11, column 6: outcomes 1, 4, 9 and 14 have one name, "Accepted 2", and pay differently'],
+    "bargaining": multiples("Ann", 138, 10) + multiples("Bob", 144, 10),
     "centipede": multiples("First", 101, 2),
+    "centipede-ten": multiples("First", 100, 2),
+    "chicken-millions": multiples("Row", 99, 10**6) + multiples("Column", 105, 10**6),
     "one": [*multiples("A", 17, 3), "line 1, column 17: A never moves", *multiples("B", 21, 4), "line 1, column 21: B never moves"],
     "sheriff": [
         'line 9, column 6: outcomes 1, 3, 5, 7, 9, 11, 13, 15 and 1 more have one name, "Passed", and pay differently',

@@ -17,6 +17,7 @@ EXAMPLES = sorted((ROOT / "examples").glob("*.efg"))
 sys.path.insert(0, str(TOOLS))
 
 from corr_places import stop  # noqa: E402
+from corr_refusals import syntax_place  # noqa: E402
 from corr_report import Bad  # noqa: E402
 
 COIN = (SAMPLES / "coin.efg").read_text()
@@ -96,7 +97,8 @@ def node_places():
     said, coin = "refused Triangle sets 1 2 1 2", COIN.splitlines()
     sets = [(1, 1, 3), (1, 2, 13), (2, 1, 4), (2, 2, 14)]
     marked = [(f"line {k + 1}, column 1: {said}: set {number} of player {side}", coin[k], 0) for side, number, k in sets]
-    yield "the sets of a triangle", *placed(COIN, said, *marked)
+    hint = "corr-plans answers a small game with a triangle, from the definition and not proved"
+    yield "the sets of a triangle", *placed(COIN, said, *marked, hint=hint)
     three = 'EFG 2 R "Three" { "A" "B" "C" }\nt "" 0\n'
     yield "the players", *placed(three, "refused Players 3", ("line 1, column 17: refused Players 3", three.splitlines()[0], 16))
 
@@ -386,10 +388,9 @@ FILES = [
 
 
 def slips():
-    where = loaded("corr-where")
     for before, after, hint in SLIPS:
         at = len(before.encode())
-        place = where.syntax_place("refused", "FILE", (before + after).encode(), 0, at)
+        place = syntax_place("refused", "FILE", (before + after).encode(), 0, at)
         yield f"a slip at {after!r} after {before!r}", (place.at, place.hint, place.said.endswith(" was to come")), (at, hint, True)
 
 

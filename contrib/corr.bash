@@ -26,8 +26,8 @@ _corr_values() {
     --kind) _corr_offer public dilemma chain ;;
     --labels) _corr_offer exact decimal number none ;;
     --format) _corr_offer svg pdf ;;
-    --game) ;;
-    --n | --seed | --corner | --byte | --title | --width | --font-size) compopt +o default 2> /dev/null || true ;;
+    --game | --gains) ;;
+    --weights | --n | --seed | --corner | --byte | --title | --width | --font-size) compopt +o default 2> /dev/null || true ;;
     *) return 1 ;;
   esac
 }
@@ -73,8 +73,11 @@ _corr_tool() {
     corr-welfare) _corr_options --game --notion --help ;;
     corr-where) _corr_options --byte --help ;;
     corr-lint) _corr_options --help ;;
+    corr-page) _corr_options --game --notion --help ;;
+    corr-plans) _corr_options --notion --report --help ;;
+    corr-at) _corr_options --weights --gains --report --table --notion --help ;;
   esac
 }
 
 complete -o default -F _corr corr
-complete -o default -F _corr_tool corr-plot corr-names corr-welfare corr-where corr-lint
+complete -o default -F _corr_tool corr-plot corr-names corr-welfare corr-where corr-lint corr-page corr-plans corr-at

@@ -23,14 +23,24 @@ def read_inputs(options):
         rest = read_bytes(options.game)
     elif not WHITE.sub(b"", rest):
         return Inputs(report, None, None)
-    if rest.startswith(b"corr-report"):
-        raise Bad(f"{_source(options.game)}this is a report, not a game" + ("" if options.game else ": it follows another report"))
-    game = read_game(rest)
-    tree = Tree(game)
+    game, tree = game_and_tree(rest, options.game)
+    want_own(report, game, tree, options.game)
+    return Inputs(report, game, tree)
+
+
+def game_and_tree(data, path):
+    """A game and its tree; the path is None where the game follows a report."""
+    if data.startswith(b"corr-report"):
+        raise Bad(f"{_source(path)}this is a report, not a game" + ("" if path else ": it follows another report"))
+    game = read_game(data)
+    return game, Tree(game)
+
+
+def want_own(report, game, tree, path):
+    """Refuses a report that isn't of this game."""
     fault = _fault(report, tree)
     if fault:
-        raise Bad(f"the report isn't of the game {_called(game, options.game)}: {fault}")
-    return Inputs(report, game, tree)
+        raise Bad(f"the report isn't of the game {_called(game, path)}: {fault}")
 
 
 def _source(path):

@@ -6,7 +6,6 @@ from collections import namedtuple
 from fractions import Fraction
 
 from corr_report import Bad
-from corr_tree import CHANCE
 
 LIMIT = 200000  # pairs of plans
 
@@ -14,11 +13,11 @@ Payoffs = namedtuple("Payoffs", "hull nash")  # points; the hull goes counter-cl
 
 
 def payoffs_of(tree):
-    if _count(tree, 1) * _count(tree, 2) > LIMIT:
+    if plan_count(tree, 1) * plan_count(tree, 2) > LIMIT:
         raise Bad(f"--payoffs goes through {LIMIT} pairs of plans at most, and this game has more")
-    plans = {player: _plans(tree, player) for player in (1, 2)}
+    plans = {player: reduced_plans(tree, player) for player in (1, 2)}
     outer = 1 if len(plans[1]) <= len(plans[2]) else 2
-    rows = _rows(tree, outer, plans)
+    rows = payoff_rows(tree, outer, plans)
     hull = [_unscaled(pair, tree.scales) for pair in _hull(rows)]
     return Payoffs(hull, [_unscaled(pair, tree.scales) for pair in sorted(_nash(rows, outer - 1))])
 
@@ -27,7 +26,7 @@ def _unscaled(amounts, scales):
     return tuple(Fraction(amount, scale) for amount, scale in zip(amounts, scales))
 
 
-def _count(tree, player):
+def plan_count(tree, player):
     """How many reduced plans the player has. The sets after a move come later in their order than the move's own set."""
     after = {None: 1}  # in how many ways a plan goes on after a move
     for place in reversed(range(len(tree.sets[player]))):
@@ -37,7 +36,7 @@ def _count(tree, player):
     return after[None]
 
 
-def _plans(tree, player):
+def reduced_plans(tree, player):
     """The player's reduced plans, as the report writes them."""
     found = [()]
     for place, each in enumerate(tree.sets[player]):
@@ -46,35 +45,22 @@ def _plans(tree, player):
     return found
 
 
-def _rows(tree, outer, plans):
+def payoff_rows(tree, outer, plans):
     """For each plan of the outer player the amounts with each plan of the other, in order."""
     inner = 3 - outer
     moves = [[None] + [(place, action) for place, action in enumerate(plan) if action is not None] for plan in plans[inner]]
     rows = []
     for plan in plans[outer]:
-        sums = _by_last_move(tree, outer, plan)
+        sums = sums_by_last_move(tree, outer, plan)
         paid = [[sums[move] for move in made if move in sums] for made in moves]
         rows.append([(sum(pair[0] for pair in pairs), sum(pair[1] for pair in pairs)) for pairs in paid])
     return rows
 
 
-def _by_last_move(tree, outer, plan):
+def sums_by_last_move(tree, outer, plan):
     """What the terminal nodes that a plan reaches pay, by the other player's last move before them, None for no move."""
-    sums = {}
-    reached = [(0, None)]
-    while reached:
-        node, last = reached.pop()
-        mover, place, after = tree.movers[node], tree.places[node], tree.children[node]
-        if mover is None:
-            before, amounts = sums.get(last, (0, 0)), tree.amounts[node]
-            sums[last] = before[0] + amounts[0], before[1] + amounts[1]
-        if mover == CHANCE:
-            reached += [(child, last) for child in after]
-        if mover == outer:
-            reached.append((after[plan[place] - 1], last))
-        if mover == 3 - outer:
-            reached += [(child, (place, action)) for action, child in enumerate(after, 1)]
-    return sums
+    reached = tree.leaves_by_last_move(outer, plan)
+    return {last: tuple(sum(tree.amounts[leaf][k] for leaf in leaves) for k in (0, 1)) for last, leaves in reached.items()}
 
 
 def _nash(rows, outer):

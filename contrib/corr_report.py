@@ -1,7 +1,7 @@
 """Reports and game files as the tools beside `corr` read them, and what these tools share at the command line.
 
 A report is read in the whole of its format, a game file by its grammar alone: whether a report is true, and whether `corr` accepts a game,
-is for `corr` to say. docs/FORMATS.md has both formats.
+is for `corr` to say. What corr-plans writes is read as a report. docs/FORMATS.md has all these formats.
 """
 import argparse
 import os
@@ -36,24 +36,38 @@ class Unread(Bad):
 # Reports
 
 Report = namedtuple("Report", "scales blocks")
-Block = namedtuple("Block", "notion kind corners")  # the kind is found, empty or toowide; only a found block has corners
+Block = namedtuple("Block", "notion kind corners sides")  # the kind is found, empty or toowide; only a found block has corners and sides
 Corner = namedtuple("Corner", "point total pairs")
 Pair = namedtuple("Pair", "weight one two")  # a plan is a list of actions from 1, None where it never gets there
+Side = namedtuple("Side", "direction corner")  # the direction is of scaled payoffs; the corner is a number
 
-NATURAL = "(?:0|[1-9][0-9]{0,37})"  # a report's numbers are below 2^126
-POSITIVE = "([1-9][0-9]{0,37})"
-INTEGER = f"(-?{NATURAL})"
-FRACTION = f"(-?{NATURAL}(?:/[1-9][0-9]{{0,37}})?)"
-NUMBERS = f"(?: -?{NATURAL})*"
+WIDTH = 38  # the most digits of a report's numbers, which are below 2^126
+DIGITS = 4000  # the most digits of a number that corr-plans writes
+NOT_PROVED = "from the definition, not proved"  # the second line of what corr-plans writes
+
 PLAN = "((?: (?:-|[1-9][0-9]?))*)"
-PLACE = f"(?:{NATURAL}|first|second|phase) {NATURAL}"
+TRIGGER = "player [12] (?:start|set [0-9]+(?: action [1-9][0-9]?)?)"
+
+
+class _Numbers:
+    """Patterns of numbers with up to so many digits."""
+
+    def __init__(self, digits):
+        self.natural = f"(?:0|[1-9][0-9]{{0,{digits - 1}}})"
+        self.positive = f"([1-9][0-9]{{0,{digits - 1}}})"
+        self.integer = f"(-?{self.natural})"
+        self.fraction = f"(-?{self.natural}(?:/[1-9][0-9]{{0,{digits - 1}}})?)"
+        self.list = f"(?: -?{self.natural})*"
+        self.place = f"(?:{self.natural}|first|second|phase) {self.natural}"
 
 
 class _Lines:
-    """The lines of a report, taken one by one from the beginning of some bytes."""
+    """The lines of a report, or of another file that has lines of this form, taken one by one from the beginning of some bytes."""
 
-    def __init__(self, data):
-        self.data, self.at, self.number = data, 0, 0
+    def __init__(self, data, name="the report"):
+        self.data, self.name, self.at, self.number = data, name, 0, 0
+        self.from_plans = data.startswith(b"corr-plans ")
+        self.numbers = _Numbers(DIGITS if self.from_plans else WIDTH)
 
     def peek(self):
         end = self.data.find(b"\n", self.at)
@@ -66,10 +80,10 @@ class _Lines:
         if line is None:
             rest = plain(self.data[self.at :][: 2 * QUOTED].decode("ascii", "replace"))
             within = f"within line {self.number}, {what}, after '{shortened(rest, QUOTED)}'"
-            raise Bad(f"the report ends {within if rest else f'before line {self.number}, {what}'}")
+            raise Bad(f"{self.name} ends {within if rest else f'before line {self.number}, {what}'}")
         match = re.fullmatch(pattern, line)
         if match is None:
-            raise Bad(f"line {self.number} of the report {_seen(line, what)}")
+            raise Bad(f"line {self.number} of {self.name} {_seen(line, what)}")
         self.at += len(line) + 1
         return match.groups()
 
@@ -93,8 +107,13 @@ def read_report(data):
     first = lines.peek()
     if first is not None and first.startswith(("refused ", "usage: ")):
         raise Bad(f"no report: corr answered '{first}'")
-    lines.take("corr-report 1", "'corr-report 1'")
-    scales = tuple(map(int, lines.take(f"scale {POSITIVE} {POSITIVE}", "the scales")))
+    if lines.from_plans:
+        lines.take("corr-plans 1", "'corr-plans 1'")
+        lines.take(NOT_PROVED, f"'{NOT_PROVED}'")
+    else:
+        lines.take("corr-report 1", "'corr-report 1'")
+    positive = lines.numbers.positive
+    scales = tuple(map(int, lines.take(f"scale {positive} {positive}", "the scales")))
     blocks = [_block(lines, -1)]
     while lines.peek() != "end":
         blocks.append(_block(lines, NOTIONS.index(blocks[-1].notion)))
@@ -102,28 +121,39 @@ def read_report(data):
     return Report(scales, blocks), data[lines.at :]
 
 
+def read_pairs(data, name):
+    """The weighted pairs of plans of a file that has nothing else, each in three lines as in a report."""
+    lines, pairs = _Lines(data if data.endswith(b"\n") else data + b"\n", name), []
+    while not pairs or lines.peek() is not None:
+        pairs.append(_pair(lines))
+    return pairs
+
+
 def _block(lines, before):
     notion, kind = lines.take("notion (efce|efcce|nfcce) (found|empty|toowide)", "the head of a notion's block or 'end'")
     if NOTIONS.index(notion) <= before:
         raise Bad(f"line {lines.number} of the report: {notion} stands twice or out of order")
-    corners = []
+    corners, sides = [], []
+    numbers = lines.numbers
     if kind == "empty":
-        lines.take(f"multipliers{NUMBERS}", "a line of multipliers")
+        lines.take(f"multipliers{numbers.list}", "a line of multipliers")
     elif kind == "toowide":
-        lines.take(f"basis{NUMBERS}", "a basis")
-        lines.take(f"at {PLACE}", "a place")
+        lines.take(f"basis{numbers.list}", "a basis")
+        lines.take(f"at {numbers.place}", "a place")
     else:
-        count = int(lines.take(f"corners {POSITIVE}", "the number of corners")[0])
+        count = int(lines.take(f"corners {numbers.positive}", "the number of corners")[0])
         for k in range(count):
             corners.append(_corner(lines, k))
-        for _ in range(int(lines.take(f"sides {POSITIVE}", "the number of sides")[0])):
-            _side(lines, count)
-    return Block(notion, kind, corners)
+        for _ in range(int(lines.take(f"sides {numbers.positive}", "the number of sides")[0])):
+            sides.append(_side(lines, count))
+    return Block(notion, kind, corners, sides)
 
 
 def _corner(lines, k):
+    numbers = lines.numbers
+    point = f"{numbers.fraction} {numbers.fraction}"
     number, first, second, total, count = lines.take(
-        f"corner ({NATURAL}) {FRACTION} {FRACTION} total {POSITIVE} pairs {POSITIVE}", f"corner {k}"
+        f"corner ({numbers.natural}) {point} total {numbers.positive} pairs {numbers.positive}", f"corner {k}"
     )
     if int(number) != k:
         raise Bad(f"line {lines.number} of the report isn't corner {k}")
@@ -135,17 +165,25 @@ def _corner(lines, k):
 
 
 def _pair(lines):
-    weight = int(lines.take(f"weight {POSITIVE}", "a weight")[0])
+    weight = int(lines.take(f"weight {lines.numbers.positive}", "a weight")[0])
     plans = [lines.take(f"{name}{PLAN}", f"a plan of player {name}")[0] for name in ("one", "two")]
     return Pair(weight, *([None if word == "-" else int(word) for word in plan.split()] for plan in plans))
 
 
 def _side(lines, corners):
-    corner = int(lines.take(f"side {INTEGER} {INTEGER} corner ({NATURAL}) den {POSITIVE}", "a side")[2])
-    if corner >= corners:
-        raise Bad(f"line {lines.number} of the report: there is no corner {corner}")
-    lines.take(f"first{NUMBERS}", "a side's first multipliers")
-    lines.take(f"second{NUMBERS}", "a side's second multipliers")
+    numbers = lines.numbers
+    head = f"side {numbers.integer} {numbers.integer} corner ({numbers.natural}) den {numbers.positive}"
+    found = list(map(int, lines.take(f"{head} deviations ({numbers.natural})" if lines.from_plans else head, "a side")))
+    if found[2] >= corners:
+        raise Bad(f"line {lines.number} of the report: there is no corner {found[2]}")
+    if not lines.from_plans:
+        lines.take(f"first{numbers.list}", "a side's first multipliers")
+        lines.take(f"second{numbers.list}", "a side's second multipliers")
+    for _ in range(found[4] if lines.from_plans else 0):
+        lines.take(f"weight {numbers.positive}", "a deviation's weight")
+        lines.take(TRIGGER, "a deviation's trigger")
+        lines.take(f"then{PLAN}", "a deviation's plan")
+    return Side((found[0], found[1]), found[2])
 
 
 # Game files

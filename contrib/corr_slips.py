@@ -15,6 +15,7 @@ MINUS = "\u2212\u2010-\u2015\ufe63\uff0d"
 QUOTES = "\u2018-\u201f\u2039\u203a\u00ab\u00bb\u00b4'`"
 CURLY = "\u201c-\u201f"
 CURRENCIES = "$\u00a3\u00a5\u20ac"
+TRIANGLE_HINT = "corr-plans answers a small game with a triangle, from the definition and not proved"
 NUMBER = r"[+-]?(?:[0-9]+\.?[0-9]*|\.[0-9]+)"
 
 # The place of a refusal: what was to come there, the word that stands there, or "", and the token before it.

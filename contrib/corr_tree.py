@@ -23,7 +23,8 @@ class Tree:
 
     `movers` has for each node who moves, None where the game ends; `places` the number of its set, by the order of the mover's sets;
     `sets` each player's sets, and `moves` for each of them the player's last move before it: a set's number and an action from 1.
-    `amounts` has for the terminal nodes the payoffs of both, times the path's probability and the scales: whole numbers.
+    `amounts` has for the terminal nodes the payoffs of both, times the path's probability and the scales: whole numbers. `paid` has for
+    them the payoffs alone, and `odds` for each node the product of the probabilities of chance on its path.
     """
 
     def __init__(self, game):
@@ -32,25 +33,50 @@ class Tree:
         self.sets = game.sets
         grown = _Growth(game)
         self.movers, self.places, self.children, self.moves = grown.movers, grown.places, grown.children, grown.moves
+        self.odds, self.paid = grown.odds, grown.paid
         self.scales = tuple(_common(leaf.amounts[k].denominator for leaf in grown.leaves) for k in (0, 1))
         self.amounts = {leaf.node: _whole(leaf.amounts, self.scales) for leaf in grown.leaves}
 
     def pay(self, one, two):
-        """The scaled payoffs of a pair of plans; only the nodes that it reaches are visited."""
-        plans = {1: one, 2: two}
+        """The scaled payoffs of a pair of plans."""
         first = second = 0
-        reached = [0]
+        for leaf in self.leaves(one, two):
+            first += self.amounts[leaf][0]
+            second += self.amounts[leaf][1]
+        return first, second
+
+    def leaves(self, one, two):
+        """The terminal nodes that a pair of plans reaches; only the nodes that it reaches are visited."""
+        plans, reached = {1: one, 2: two}, [0]
         while reached:
             node = reached.pop()
             mover = self.movers[node]
             if mover is None:
-                first += self.amounts[node][0]
-                second += self.amounts[node][1]
+                yield node
             elif mover == CHANCE:
                 reached += self.children[node]
             else:
                 reached.append(self.children[node][plans[mover][self.places[node]] - 1])
-        return first, second
+
+    def leaves_by_last_move(self, player, plan):
+        """The terminal nodes to which a player's plan leads, by the other player's last move before them, None for no move."""
+        found, reached = {}, [(0, None)]
+        while reached:
+            node, last = reached.pop()
+            mover, place, after = self.movers[node], self.places[node], self.children[node]
+            if mover is None:
+                found.setdefault(last, []).append(node)
+            elif mover == CHANCE:
+                reached += [(child, last) for child in after]
+            elif mover == player:
+                reached.append((after[plan[place] - 1], last))
+            else:
+                reached += [(child, (place, action)) for action, child in enumerate(after, 1)]
+        return found
+
+    def actions(self, player, place):
+        """The actions at a set of the player, from 1."""
+        return range(1, len(self.sets[player][place].actions) + 1)
 
     def is_reached(self, player, place, plan):
         """Whether the plan's own actions lead to a set of the player."""
@@ -82,7 +108,7 @@ class _Growth:
         self.moves = {side: [None] * len(game.sets[side]) for side in (1, 2)}
         self.seen = {1: set(), 2: set()}
         self.lists, self.outcomes = {}, {"0": NOTHING}
-        self.movers, self.places, self.children, self.leaves = [], [], [], []
+        self.movers, self.places, self.children, self.leaves, self.odds, self.paid = [], [], [], [], [], {}
         self.waiting = [Way(None, Fraction(1), NOTHING, (None, None))]
         for self.at, node in enumerate(game.nodes):
             self._add(node)
@@ -100,6 +126,7 @@ class _Growth:
             self.children[way.parent].append(self.at)
         way = way._replace(parent=self.at, paid=tuple(a + b for a, b in zip(way.paid, self._pays(node))))
         self.children.append([])
+        self.odds.append(way.odds)
         if node.kind == "t":
             self._leaf(way)
         elif node.kind == "c":
@@ -133,6 +160,7 @@ class _Growth:
     def _leaf(self, way):
         self.movers.append(None)
         self.places.append(None)
+        self.paid[self.at] = way.paid
         self.leaves.append(Leaf(self.at, [way.odds * paid for paid in way.paid]))
 
     def _chance(self, node, way):

@@ -246,7 +246,7 @@ open_files() {
     exec < "${files[0]}"
   else
     exec {given}<&0
-    exec < <(exec cat -- "${files[@]}" <&"$given" 2> /dev/null)
+    exec < <(exec cat -- "${files[@]}" <&"$given" 2> /dev/null) || stop_unread "what ${files[*]} hold"
     joined=$!
     exec {given}<&-
   fi
