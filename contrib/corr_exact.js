@@ -2,7 +2,7 @@
 
 // Exact arithmetic of the page: fractions of whole numbers without bound, and polygons whose corners go counter-clockwise.
 const Exact = (() => {
-  const PLACES = 6; // decimals with so many places or fewer are shown in full
+  const PLACES = 6; // decimals with this many places or fewer are shown in full
   const DIGITS = 4n; // of rounded decimals
 
   // Fractions
@@ -183,7 +183,7 @@ const Exact = (() => {
     return onGrid(axis, whole + BigInt(Math.round(offset / approximate(axis.step) + rest)));
   }
 
-  // The grid's payoff after so many steps up, or down where there are fewer than none.
+  // The grid's payoff after this many steps up, or down where there are fewer than none.
   function stepped(axis, payoff, steps) {
     const place = quotient(payoff, axis.step);
     return onGrid(axis, (steps > 0 ? floor(place) : ceiling(place)) + BigInt(steps));

@@ -102,7 +102,7 @@ class Axis:
         self.unit, self.length = unit, length
 
     def step(self, most):
-        """The least distance of round numbers at which there are about so many, or fewer."""
+        """The least distance of round numbers at which there are about this many, or fewer."""
         rough = (self.high - self.low) / most
         power = Fraction(10) ** (len(str(int(rough))) if rough >= 1 else 0)
         while power > rough:

@@ -7,8 +7,9 @@ from string import Template
 from corr_drawing import SWATCH, swatch
 from corr_layout import MINUS, rounded
 from corr_legend import FULL_NAMES, counted
+from corr_picture import groups
 from corr_report import Bad, plain, player_names, point_text, read_bytes
-from corr_scene import groups, scene
+from corr_scene import scene
 
 FOLDER = Path(__file__).resolve().parent
 UNTITLED = "Payoffs in correlated equilibrium"

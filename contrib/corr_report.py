@@ -50,7 +50,7 @@ TRIGGER = "player [12] (?:start|set [0-9]+(?: action [1-9][0-9]?)?)"
 
 
 class _Numbers:
-    """Patterns of numbers with up to so many digits."""
+    """Patterns of numbers with up to this many digits."""
 
     def __init__(self, digits):
         self.natural = f"(?:0|[1-9][0-9]{{0,{digits - 1}}})"

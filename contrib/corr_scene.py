@@ -3,28 +3,19 @@ from collections import namedtuple
 from fractions import Fraction
 from math import ceil, floor
 
-from corr_drawing import line, mark, number, shape, tag, text
+from corr_drawing import number, tag, text
 from corr_labels import Labels
 from corr_layout import Frame, Plane, exact_text, fitted, tick_text, width_of
+from corr_picture import SMALLEST, contents, corner_labels, grid, groups, sizes_of
 
 SIZE = 15  # of texts, in pixels where the picture has its own width
 AROUND = 52  # from the polygons to the frame, at least: room for points that aren't reached
 RIGHT = 20  # right of the frame
-SMALLEST = 0.75  # exact labels that would have to be smaller than that are left out: the table of corners has them
 GRID = 4  # how many pixels two places of the point are apart, at least
 
 Scene = namedtuple("Scene", "svg axes")
 # Where an axis' payoffs lie on the picture, and the grid on it: its lowest and its highest place, in steps.
 AxisPlace = namedtuple("AxisPlace", "least start unit step lowest highest")
-
-
-def groups(blocks):
-    """The notions that have the same corners, together, with these; the greatest polygon first."""
-    found = {}
-    for block in blocks:
-        if block.kind == "found":
-            found.setdefault(tuple(corner.point for corner in block.corners), []).append(block.notion)
-    return [(notions, points) for points, notions in reversed(list(found.items()))]
 
 
 def scene(blocks, names, description):
@@ -37,8 +28,9 @@ def scene(blocks, names, description):
     frame = Frame(plane, plane.around([room, *(label.box for label in placed)]), 0, SIZE)
     widest = max(width_of(tick_text(value), SIZE) for value in frame.ticks[1])
     frame.put(30 + widest, 8)
-    below = element("g", [*grid(frame), *axis_titles(frame, names), *contents(frame, drawn)], role="img", aria_label=description)
-    above = element("g", label_parts(frame, placed), aria_hidden="true")
+    drawing = [*grid(frame, sizes_of(SIZE)), *axis_titles(frame, names), *contents(frame, drawn, None)]
+    below = element("g", drawing, role="img", aria_label=description)
+    above = element("g", corner_labels(frame, placed), aria_hidden="true")
     return Scene(document(below, above, frame), [axis_place(frame, k) for k in (0, 1)])
 
 
@@ -49,7 +41,7 @@ def element(kind, parts, **attributes):
 
 
 def labels_of(plane, drawn, points):
-    """The exact payoffs at the corners, or no labels where there is no room."""
+    """The exact payoffs at the corners, or no labels where there is no room: the table of corners has them."""
     labels = Labels(plane, [list(corners) for _, corners in drawn], points, [], [], SIZE)
     texts = [exact_text(point) for point in points]
     return labels.near(texts) or [] if min(labels.sizes(texts)) >= SMALLEST * SIZE else []
@@ -67,49 +59,11 @@ def axis_place(frame, k):
 # The frame and what lies in it
 
 
-def grid(frame):
-    """The frame and a grid at round numbers, which stand at the axes."""
-    for value in frame.ticks[0]:
-        x, _ = frame.at((value, frame.plane.least[1]))
-        yield line(x, frame.top, x, frame.bottom + 5)
-        yield text("tick", tick_text(value), x, frame.bottom + 8 + SIZE, SIZE)
-    yield from level_lines(frame)
-    box = {"x": frame.left, "y": frame.top, "width": frame.width, "height": frame.height}
-    yield tag("rect", **{"class": "frame"}, fill="none", stroke="#777777", **box)
-
-
-def level_lines(frame):
-    for value in frame.ticks[1]:
-        _, y = frame.at((frame.plane.least[0], value))
-        yield line(frame.left - 5, y, frame.right, y)
-        yield text("tick", tick_text(value), frame.left - 9, y + 5, SIZE, "end")
-
-
 def axis_titles(frame, names):
     middle = (frame.left + frame.right) / 2, (frame.top + frame.bottom) / 2
     across, up = (fitted(f"expected payoff of {name}", SIZE, room) for name, room in zip(names, (frame.width, frame.height)))
     yield text("axis", across, middle[0], frame.bottom + 45, SIZE)
     yield text("axis", up, 15, middle[1], SIZE, transform=f"rotate(-90 15 {number(middle[1])})")
-
-
-def contents(frame, drawn):
-    """The shapes, the greatest first, and then the marks."""
-    for notions, points in drawn:
-        yield shape(notions[0], [frame.at(point) for point in points])
-    for notions, points in drawn:
-        yield from (mark(notions[0], *frame.at(point)) for point in points)
-
-
-def label_parts(frame, placed):
-    """The labels, and a thin line to each one that had to lie away."""
-    for label in placed:
-        if label.leader:
-            yield line(*frame.moved(*label.leader[0]), *frame.moved(*label.leader[1]), stroke="#555555")
-    for label in placed:
-        left, top, right, bottom = label.box
-        x, y = frame.moved((left + right) / 2, (top + bottom) / 2)
-        halo = {"stroke": "#ffffff", "stroke_width": 4, "stroke_linejoin": "round", "paint_order": "stroke"}
-        yield text("label", label.text, x, y + 0.35 * label.size, label.size, **halo)
 
 
 # What the script moves
