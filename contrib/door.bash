@@ -1,5 +1,5 @@
-# The front door of `corr`, which the launcher and the installed command source. It gives help, opens files by their names, and says what a
-# status above 63 means. The program behind it knows no files: it reads standard input, and its words are handed on as they are.
+# The front door of `corr`, which the launcher, `preview` and the installed command source. It gives help, opens files by their names, and
+# says what a status above 63 means. The program itself knows no files: it reads standard input, and gets its own words as they are.
 usage="usage: corr solve|check|gen|work [--notion efce|efcce|nfcce] [--kind public|dilemma|chain] [--n N] [--seed N]"
 
 say() {
